@@ -1,0 +1,4 @@
+pub mod Chain
+pub mod Pair
+pub mod Parties
+pub mod Scheme
