@@ -32,3 +32,8 @@ unplaced reason = record { reason = reason; line = 0; field = 0 }
 abbrev pub Accepts : {X : Type 0} → Bool → (X → Type 0) → Reason → Result X Fault → Type 0
 Accepts test Wanted reason (Ok x) = (test ≡ true) × Wanted x
 Accepts test Wanted reason (Err f) = (test ≡ false) × (f ≡ unplaced reason)
+
+-- a value handed on, or the refusal kept
+abbrev pub then : {X Y : Type 0} → Result X Fault → (X → Result Y Fault) → Result Y Fault
+then (Ok x) next = next x
+then (Err f) next = Err f
