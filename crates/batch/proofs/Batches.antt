@@ -15,6 +15,7 @@ use Rattle.std.specs.shelf.Lists.{All}
 use Rattle.fault.specs.declared.Fault.{Fault}
 use Rattle.fault.specs.declared.Reason.the-variants as reason
 use Rattle.fault.specs.Faults.{unplaced, then}
+use Rattle.fault.proofs.Then.{same-ok, then-ok}
 use Rattle.ticket.specs.declared.Ticket.{Ticket}
 use Rattle.ticket.specs.Tickets.{encoded, decoded, Proper}
 use Rattle.ticket.proofs.Codec.{decoded-encoded, encoded-decoded}
@@ -34,14 +35,6 @@ length-encoded-all : (ts : List Ticket) → length (encoded-all ts) ≡ 8 * leng
 length-encoded-all [] = refl
 length-encoded-all (t ∷ ts) = omega (arith, length-append (encoded t) (encoded-all ts), length-encoded-all ts)
 
--- what is handed on is the first of two values
-pushed : {X Y : Type 0} (a : Result X Fault) (k : X → Result Y Fault) (y : Y) → then a k ≡ Ok y → (x : X) × (a ≡ Ok x) × (k x ≡ Ok y)
-pushed (Ok x) k y e = (x, refl, e)
-pushed (Err f) k y e = let z : _≡_ {A = ℕ} 0 1 = cc in absurd (omega arith)
-
-same-ok : {X : Type 0} (x y : X) → _≡_ {A = Result X Fault} (Ok x) (Ok y) → x ≡ y
-same-ok x y e = cc
-
 small-front : (bytes : List ℕ) → ((i : ℕ) → getD bytes i 0 < 256) → (i : ℕ) → getD (take 8 bytes) i 0 < 256
 small-front bytes small i =
     ⊎-elim (λ (h : i < 8). rw (getD-take 8 bytes i 0 h) (small i))
@@ -57,18 +50,21 @@ carried zero bytes ts long small e =
     let none : ts ≡ [] = sym (same-ok [] ts e) in
     rw none (nil-from-length bytes (omega arith), tt)
 carried (suc n) bytes ts long small e =
-    let one = pushed (decoded (take 8 bytes)) _ ts e in
-    let more = pushed (tickets-of n (drop 8 bytes)) _ ts (one .2) in
+    let one = then-ok (decoded (take 8 bytes)) _ ts e in
+    let more = then-ok (tickets-of n (drop 8 bytes)) _ ts (one .2) in
     let rest = carried n (drop 8 bytes) (more .0) (omega (arith, length-drop 8 bytes)) (λ i. rw (getD-drop 8 bytes i 0) (small (8 + i))) (more .1) in
     let here = encoded-decoded (take 8 bytes) (λ i. small-front bytes small i) (one .0) (one .1) in
     let all : one .0 ∷ more .0 ≡ ts = same-ok _ ts (more .2) in
     rw (← all) (sym (take-append-drop 8 bytes) ∙ ap (λ xs. xs ++ drop 8 bytes) (here .1) ∙ ap (λ xs. encoded (one .0) ++ xs) (rest .0), (here .0, rest .1))
 
+-- an accepted batch is as many tickets as it has bytes for
+pub batch-whole : (bytes : List ℕ) (ts : List Ticket) → batch bytes ≡ Ok ts → (length bytes % 8 ≡ 0) × (tickets-of (length bytes / 8) bytes ≡ Ok ts)
+batch-whole bytes ts e = let whole = whole-if (eqb (length bytes % 8) 0) _ ts e in (eqb-true (length bytes % 8) 0 (whole .0), whole .1)
+
 pub batch-carries : (bytes : List ℕ) (ts : List Ticket) → ((i : ℕ) → getD bytes i 0 < 256) → batch bytes ≡ Ok ts → Carries bytes ts
 batch-carries bytes ts small e =
-    let whole = whole-if (eqb (length bytes % 8) 0) _ ts e in
-    let long = eqb-true (length bytes % 8) 0 (whole .0) in
-    carried (length bytes / 8) bytes ts (omega arith) small (whole .1)
+    let whole = batch-whole bytes ts e in
+    carried (length bytes / 8) bytes ts (omega (arith, whole .0)) small (whole .1)
 
 reads : (ts : List Ticket) → All Proper ts → tickets-of (length (encoded-all ts) / 8) (encoded-all ts) ≡ Ok ts
 reads [] all = refl

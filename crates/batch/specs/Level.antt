@@ -23,13 +23,16 @@ abbrev pub join-each : Levels → ℕ → List ℕ → ℕ
 join-each L j [] = j
 join-each L j (x ∷ xs) = join-each L (L .join j x) xs
 
+-- the lowest level joined with the levels of all tickets
+abbrev pub level-of : Levels → LevelSheet → List Ticket → ℕ
+level-of L sheet ts = join-each L (L .lowest) (map (ticket-level sheet) ts)
+
 -- the level j joined with the levels of the whole tickets in the bytes
 abbrev pub join-tickets : Levels → LevelSheet → ℕ → List ℕ → Result ℕ Fault
 join-tickets L sheet j bytes = then (tickets-of (length bytes / 8) bytes) (λ ts. Ok (join-each L j (map (ticket-level sheet) ts)))
 
--- the lowest level joined with the levels of all tickets
 abbrev pub batch-level : Levels → LevelSheet → List ℕ → Result ℕ Fault
-batch-level L sheet bytes = then (checked L sheet) (λ _. then (batch bytes) (λ ts. Ok (join-each L (L .lowest) (map (ticket-level sheet) ts))))
+batch-level L sheet bytes = then (checked L sheet) (λ _. then (batch bytes) (λ ts. Ok (level-of L sheet ts)))
 
 -- j is the least level at or above each of the levels xs
 pub record Least-above (L : Levels) (xs : List ℕ) (j : ℕ) : Type 0 where
