@@ -10,11 +10,7 @@ use sheet::LevelSheet;
 use ticket::Ticket;
 
 // The least level at or above every ticket in the bytes, and the lowest level for none.
-pub fn level_of_batch<S: Scheme>(
-    scheme: &S,
-    sheet: &LevelSheet,
-    bytes: &[u8],
-) -> Result<u8, Fault>
+pub fn level_of_batch<S: Scheme>(scheme: &S, sheet: &LevelSheet, bytes: &[u8]) -> Result<u8, Fault>
     ensures value { λ r. ⌜ r ≡ batch-level (levels (now (scheme .entry))) (now (sheet .entry)) (now (bytes .entry)) ⌝ }
     ensures least { λ r. ⌜ Levelled (levels (now (scheme .entry))) (now (sheet .entry)) (now (bytes .entry)) r ⌝ }
 {

@@ -53,8 +53,15 @@ fn put_record(out: &mut Vec<u8>, record: &[u8]) -> Result<(), AllocError>
 fn put_ticket(out: &mut Vec<u8>, ticket: Ticket) -> Result<(), AllocError>
     ensures { λ r. ⌜ Appends (now (out .entry)) (ticket-line ticket) r (now (out .exit)) ⌝ }
 {
-    let word = if ticket.is_in() { Keyword::In } else { Keyword::Out };
-    let entries = [Entry::Number(ticket.channel as u64), Entry::Number(ticket.value as u64)];
+    let word = if ticket.is_in() {
+        Keyword::In
+    } else {
+        Keyword::Out
+    };
+    let entries = [
+        Entry::Number(ticket.channel as u64),
+        Entry::Number(ticket.value as u64),
+    ];
     put_line(out, word, &entries)
 }
 

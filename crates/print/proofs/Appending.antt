@@ -18,19 +18,21 @@ use Rattle.print.specs.Appending.{Appends, Appended}
 
 module _ (old : Vec ℕ Global) (bytes left part rest : List ℕ) (e : left ≡ part ++ rest) (mid new : Vec ℕ Global) (sofar : Appended old bytes left mid) where
   pub appended-more : (u : Unit {0}) → Appends mid part (Ok u) new → Appended old bytes rest new
-  appended-more u (items, room) =
-      (sofar .0 ++ part,
-       items ∙ ap (λ xs. xs ++ part) (sofar .1) ∙ append-assoc (vec-items old) (sofar .0) part,
-       append-assoc (sofar .0) part rest ∙ ap (λ xs. sofar .0 ++ xs) (sym e) ∙ sofar .2,
-       omega (arith, sofar .3))
+  appended-more u (items, room) = (
+    sofar .0 ++ part,
+    items ∙ ap (λ xs. xs ++ part) (sofar .1) ∙ append-assoc (vec-items old) (sofar .0) part,
+    append-assoc (sofar .0) part rest ∙ ap (λ xs. sofar .0 ++ xs) (sym e) ∙ sofar .2,
+    omega (arith, sofar .3),
+  )
 
   pub appended-short : (f : AllocError) (r : Result (Unit {0}) AllocError) → isErr r ≡ true → Appends mid part (Err f) new → Appends old bytes r new
   appended-short f (Ok u) is (room, more) = absurd (false≢true is)
   appended-short f (Err g) is (room, more) =
       let long = ap length (sofar .2) in
-      let here = ap length (sofar .1) in
-      (omega (arith, sofar .3, long, here, ap length e, length-append (sofar .0) left, length-append part rest, length-append (vec-items old) (sofar .0), old .ok .0, mid .ok .0),
-       (sofar .0 ++ more .0, more .1 ∙ ap (λ xs. xs ++ more .0) (sofar .1) ∙ append-assoc (vec-items old) (sofar .0) (more .0)))
+      let here = ap length (sofar .1) in (
+        omega (arith, sofar .3, long, here, ap length e, length-append (sofar .0) left, length-append part rest, length-append (vec-items old) (sofar .0), old .ok .0, mid .ok .0),
+        (sofar .0 ++ more .0, more .1 ∙ ap (λ xs. xs ++ more .0) (sofar .1) ∙ append-assoc (vec-items old) (sofar .0) (more .0)),
+      )
 
 pub appended-all : (old : Vec ℕ Global) (bytes part : List ℕ) (mid new : Vec ℕ Global) → Appended old bytes part mid → (r : Result (Unit {0}) AllocError) → Appends mid part r new → Appends old bytes r new
 appended-all old bytes part mid new sofar (Ok u) (items, room) =

@@ -29,10 +29,10 @@ loop-record-again g c =
     let known = channel-level-below laws (c .args .sheet .now) (c .pre) (c .in-Continue-ticket .ticket .channel) in
     let old = c .loop-record .inv in
     let join : c .unwrap-or-level .result ≡ L .join (c .loop-record .level) other =
-        c .unwrap-or-level .ensures
-        ∙ ap (λ o. valueOr o (c .loop-record .level)) (c .join-join .ensures ∙ ap (join-of L (c .loop-record .level)) (c .channel-level .ensures) ∙ join-some L (c .loop-record .level) other (old .3) known) in
+    c .unwrap-or-level .ensures
+    ∙ ap (λ o. valueOr o (c .loop-record .level)) (c .join-join .ensures ∙ ap (join-of L (c .loop-record .level)) (c .channel-level .ensures) ∙ join-some L (c .loop-record .level) other (old .3) known) in
     let more = join-tickets-more L (c .args .sheet .now) (c .loop-record .level) (chunks-exact-rest (c .loop-record .record-iterator)) (c .in-Some .record .now) (chunks-exact-rest (c .next .last .self))
-        (steps .1 .0) (steps .1 .1 ∙ old .2) (c .in-Continue-ticket .ticket) (sym (c .in-Continue-ticket .ensures tt .value)) in
+    (steps .1 .0) (steps .1 .1 ∙ old .2) (c .in-Continue-ticket .ticket) (sym (c .in-Continue-ticket .ensures tt .value)) in
     let size = steps .0 ∙ old .2 in
     (tt, omega arith, size, rw join (join-level laws (c .loop-record .level) other (old .3) known), ap (λ j. join-tickets L (c .args .sheet .now) j (chunks-exact-rest (c .next .last .self))) join ∙ sym more ∙ old .4)
 
@@ -41,7 +41,7 @@ returns-in-Break-ticket g c =
     let steps = c .in-Some .ensures tt .steps in
     let p = err-from-errBy (c .from-residual .result) (c .from-residual .ensures .1) in
     let stops = join-tickets-stops (g .S·Scheme .levels (c .args .scheme .now)) (c .args .sheet .now) (c .loop-record .level) (chunks-exact-rest (c .loop-record .record-iterator)) (c .in-Some .record .now) (chunks-exact-rest (c .next .last .self))
-        (steps .1 .0) (steps .1 .1 ∙ c .loop-record .inv .2) (c .in-Break-ticket .field-0 .0) (sym (c .in-Break-ticket .ensures tt .value)) in
+    (steps .1 .0) (steps .1 .1 ∙ c .loop-record .inv .2) (c .in-Break-ticket .field-0 .0) (sym (c .in-Break-ticket .ensures tt .value)) in
     p .1 ∙ ap Err (p .2) ∙ sym stops ∙ c .loop-record .inv .4
 
 pub returns : need.returns

@@ -12,4 +12,4 @@ Inv-loop-record g l =
     × (chunks-exact-size (l .record-iterator) ≡ 8)
     × (l .level < g .S·Scheme .levels (l .scheme) .count)
     × (join-tickets (g .S·Scheme .levels (l .scheme)) (l .sheet) (l .level) (chunks-exact-rest (l .record-iterator))
-       ≡ join-tickets (g .S·Scheme .levels (l .scheme)) (l .sheet) (g .S·Scheme .levels (l .scheme) .lowest) (l .bytes))
+    ≡ join-tickets (g .S·Scheme .levels (l .scheme)) (l .sheet) (g .S·Scheme .levels (l .scheme) .lowest) (l .bytes))
