@@ -16,14 +16,11 @@ pub record Outcome : Type 0 where
 abbrev pub Meaning : Type 0
 Meaning = List ℕ → Ticket → ℕ → Outcome
 
--- no reaction makes more than sixteen tickets
-abbrev pub Few : Meaning → Type 0
-Few means = (words : List ℕ) (t : Ticket) (allowance : ℕ) → length (means words t allowance .made) ≤ 16
-
 -- a ticket on one of the channels 16 to 31
 abbrev pub Out : Ticket → Type 0
 Out t = (16 ≤ t .channel) × (t .channel < 32)
 
--- a reaction makes only out-tickets
-abbrev pub Outward : Meaning → Type 0
-Outward means = (words : List ℕ) (t : Ticket) (allowance : ℕ) → All Out (means words t allowance .made)
+-- a reaction makes at most sixteen tickets, and only out-tickets
+pub record Lawful (means : Meaning) : Type 0 where
+  pub few : (words : List ℕ) (t : Ticket) (allowance : ℕ) → length (means words t allowance .made) ≤ 16
+  pub outward : (words : List ℕ) (t : Ticket) (allowance : ℕ) → All Out (means words t allowance .made)

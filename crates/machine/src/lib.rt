@@ -1,5 +1,5 @@
 // Reactive machines: fed one in-ticket, a machine makes out-tickets and keeps its state in words.
-ghost use Rattle.machine.specs.Meaning.{Meaning, Few, Outward};
+ghost use Rattle.machine.specs.Meaning.{Meaning, Lawful};
 ghost use Rattle.machine.specs.Reacting.{Reacts};
 use ticket::Ticket;
 
@@ -20,9 +20,8 @@ pub struct Reaction {
 pub trait Machine {
     ghost meaning: { Self → Meaning };
 
-    law few: { (m : Self) → Few (meaning m) };
-
-    law outward: { (m : Self) → Outward (meaning m) };
+    // What each implementation has to show of its meaning.
+    ghost lawful: { (m : Self) → Lawful (meaning m) };
 
     // Never refuses. The slip holds the tickets made, and beyond them what it held.
     fn react(

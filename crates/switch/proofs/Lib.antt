@@ -1,0 +1,3 @@
+pub mod Transitions
+pub mod Sheets
+pub mod Filling

@@ -1,0 +1,4 @@
+pub mod Lawful
+pub mod Loading
+pub mod Sound
+pub mod Switching

@@ -1,0 +1,10 @@
+pub mod Built
+pub mod Cutting
+pub mod Decimals
+pub mod Forms
+pub mod Printing
+pub mod Raggedness
+pub mod Refusals
+pub mod Table
+pub mod Taking
+pub mod Texts

@@ -1,0 +1,9 @@
+pub mod Building
+pub mod Classes
+pub mod Fields
+pub mod Lines
+pub mod Numbers
+pub mod Pieces
+pub mod Places
+pub mod Reading
+pub mod Texts
