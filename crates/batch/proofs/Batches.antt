@@ -1,5 +1,4 @@
 -- Reading a batch undoes writing one. Assumes nothing.
-use mathlib.Core.Bool.{Bool, true, false, cond}
 use mathlib.Core.Logic.{⊎-elim}
 use mathlib.Core.List.{List, [], _∷_, _++_}
 use mathlib.Core.Path.{_≡_, refl, sym, ap, _∙_}
@@ -15,7 +14,7 @@ use Rattle.std.specs.shelf.Lists.{All}
 use Rattle.fault.specs.declared.Fault.{Fault}
 use Rattle.fault.specs.declared.Reason.the-variants as reason
 use Rattle.fault.specs.Faults.{unplaced, then}
-use Rattle.fault.proofs.Then.{same-ok, then-ok}
+use Rattle.fault.proofs.Then.{same-ok, cond-ok, then-ok}
 use Rattle.ticket.specs.declared.Ticket.{Ticket}
 use Rattle.ticket.specs.Tickets.{encoded, decoded, Proper}
 use Rattle.ticket.proofs.Codec.{decoded-encoded, encoded-decoded}
@@ -41,10 +40,6 @@ small-front bytes small i =
     (λ (h : 8 ≤ i). let past : getD (take 8 bytes) i 0 ≡ 0 = getD-past (take 8 bytes) i 0 (omega (arith, length-take 8 bytes)) in omega arith)
     (cases-lt i 8)
 
-whole-if : (b : Bool) (r : Result (List Ticket) Fault) (ts : List Ticket) → cond b r (Err (unplaced reason.Record)) ≡ Ok ts → (b ≡ true) × (r ≡ Ok ts)
-whole-if true r ts e = (refl, e)
-whole-if false r ts e = let z : _≡_ {A = ℕ} 0 1 = cc in absurd (omega arith)
-
 carried : (n : ℕ) (bytes : List ℕ) (ts : List Ticket) → length bytes ≡ 8 * n → ((i : ℕ) → getD bytes i 0 < 256) → tickets-of n bytes ≡ Ok ts → Carries bytes ts
 carried zero bytes ts long small e =
     let none : ts ≡ [] = sym (same-ok [] ts e) in
@@ -59,7 +54,7 @@ carried (suc n) bytes ts long small e =
 
 -- an accepted batch is as many tickets as it has bytes for
 pub batch-whole : (bytes : List ℕ) (ts : List Ticket) → batch bytes ≡ Ok ts → (length bytes % 8 ≡ 0) × (tickets-of (length bytes / 8) bytes ≡ Ok ts)
-batch-whole bytes ts e = let whole = whole-if (eqb (length bytes % 8) 0) _ ts e in (eqb-true (length bytes % 8) 0 (whole .0), whole .1)
+batch-whole bytes ts e = let whole = cond-ok (eqb (length bytes % 8) 0) _ (unplaced reason.Record) ts e in (eqb-true (length bytes % 8) 0 (whole .0), whole .1)
 
 pub batch-carries : (bytes : List ℕ) (ts : List Ticket) → ((i : ℕ) → getD bytes i 0 < 256) → batch bytes ≡ Ok ts → Carries bytes ts
 batch-carries bytes ts small e =

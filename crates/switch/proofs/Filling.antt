@@ -13,17 +13,18 @@ use Rattle.fault.specs.declared.Fault.{Fault}
 use Rattle.text.specs.Building.{two-steps}
 use Rattle.text.specs.Lines.{is-clean}
 use Rattle.text.specs.Pieces.{pieces}
-use Rattle.text.specs.Places.{ragged-at, full-at, then}
+use Rattle.text.specs.Places.{ragged-at, full-at}
+use Rattle.fault.specs.Faults.{then}
 use Rattle.text.specs.Texts.{strict, on-lines}
 use Rattle.switch.specs.declared.line.SwitchLine.{SwitchLine}
-use Rattle.switch.specs.Reading.{blank, line-in, parse, keep, lines-in, Filled}
+use Rattle.switch.specs.Reading.{blank, line-in, parse, keep, reading, Filled}
 
 -- count lines are read, blanks follow them, and what is left gives the result
 pub record Read-so-far (text left : List ℕ) (count : ℕ) (lines : List SwitchLine) : Type 0 where
   pub few : count ≤ 64
   pub room : 64 ≤ length lines
   pub rest : drop count lines ≡ replicate (length lines - count) blank
-  pub same : lines-in text ≡ on-lines strict (two-steps parse keep) (take count lines) count (pieces 10 left)
+  pub same : reading text ≡ on-lines strict (two-steps parse keep) (take count lines) count (pieces 10 left)
 
 -- the lines after what the next one gives
 abbrev after : ℕ → List ℕ → Result (List SwitchLine) Fault → Result (List SwitchLine) Fault
@@ -34,14 +35,14 @@ module _ {text left : List ℕ} {count : ℕ} {lines : List SwitchLine} (s : Rea
   taken = length-take-le count lines (let a = s .few in let b = s .room in omega arith)
 
   module _ (p rest : List ℕ) (e : pieces 10 left ≡ p ∷ pieces 10 rest) (clean : is-clean p ≡ true) where
-    by-line : lines-in text ≡ after (count + 1) rest (then (parse (count + 1) p) (λ l. keep (take count lines) (count + 1) l))
+    by-line : reading text ≡ after (count + 1) rest (then (parse (count + 1) p) (λ l. keep (take count lines) (count + 1) l))
     by-line =
         s .same
         ∙ ap (on-lines strict (two-steps parse keep) (take count lines) count) e
         ∙ ap (λ b. after (count + 1) rest (cond b (two-steps parse keep (take count lines) (count + 1) p) (Err (ragged-at (count + 1))))) clean
 
     module _ (l : SwitchLine) (h : line-in (count + 1) (pieces 44 p) ≡ Ok l) where
-      kept-line : count < 64 → lines-in text ≡ after (count + 1) rest (Ok (take count lines ++ l ∷ []))
+      kept-line : count < 64 → reading text ≡ after (count + 1) rest (Ok (take count lines ++ l ∷ []))
       kept-line lt =
           let t = taken in
           by-line
@@ -67,10 +68,14 @@ module _ {text left : List ℕ} {count : ℕ} {lines : List SwitchLine} (s : Rea
                 ∙ ap (λ ls. on-lines strict (two-steps parse keep) ls (count + 1) (pieces 10 rest)) (sym (take-more-set lines count l (omega arith)));
           }
 
-  pub all-read : left ≡ [] → Filled (lines-in text) (Ok count) lines
+  pub all-read : left ≡ [] → Filled (reading text) (Ok count) lines
   all-read e =
-      let q : lines-in text ≡ Ok (take count lines) = s .same ∙ ap (λ l. on-lines strict (two-steps parse keep) (take count lines) count (pieces 10 l)) e in
+      let q : reading text ≡ Ok (take count lines) = s .same ∙ ap (λ l. on-lines strict (two-steps parse keep) (take count lines) count (pieces 10 l)) e in
       subst (λ (r : Result (List SwitchLine) Fault). Filled r (Ok count) lines) (sym q) (
         ap (λ n. Ok n) (sym taken),
         sym (take-append-drop count lines) ∙ ap (λ d. take count lines ++ d) (s .rest) ∙ ap (λ n. take count lines ++ replicate (length lines - n) blank) (sym taken),
       )
+
+pub refused : (x : Result (List SwitchLine) Fault) (f : Fault) (lines : List SwitchLine) → Filled x (Err f) lines → x ≡ Err f
+refused (Ok ls) f lines e = let z : _≡_ {A = ℕ} 0 1 = cc in absurd (omega arith)
+refused (Err g) f lines e = let same : g ≡ f = cc in ap (λ h. Err h) same

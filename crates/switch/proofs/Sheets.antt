@@ -21,7 +21,7 @@ use Rattle.text.specs.Texts.{strict}
 use Rattle.text.proofs.Built.{accepted-text-is-written, written-text-is-accepted}
 use Rattle.text.proofs.Cutting.{Free}
 use Rattle.text.proofs.Printing.{length-fed, clean-is-free}
-use Rattle.text.proofs.Refusals.{cond-ok}
+use Rattle.fault.proofs.Then.{cond-ok}
 use Rattle.switch.specs.declared.line.SwitchLine.{SwitchLine}
 use Rattle.switch.specs.Reading.{blank, parse, keep, lines-in, reading, counted, padded, answer, lines-after}
 use Rattle.switch.specs.Writing.{line-bytes, written, Fit, Sheet, Reading-inverts-writing, Accepts}

@@ -24,9 +24,9 @@ use Rattle.text.proofs.Cutting.{Free, pieces-rejoin, joined-pieces-part}
 use Rattle.text.proofs.Decimals.{number-read-is-decimal, decimal-is-digits, decimal-is-read}
 use Rattle.text.proofs.Printing.{digits-are-printable, digits-are-free, printable-marked, length-marked, short-printable-is-clean}
 use Rattle.text.proofs.Taking.{letter-read-is-first, dash-is-its-byte, number-read-is-first, first-decimal-is-read, end-read-is-no-field}
-use Rattle.text.proofs.Refusals.{then-ok, ok-then, cond-ok}
+use Rattle.fault.proofs.Then.{then-ok, ok-then, cond-ok}
 use Rattle.switch.specs.declared.line.SwitchLine.{SwitchLine}
-use Rattle.switch.specs.Reading.{made-by, read-out, most-value, read-rest, line-in, parse}
+use Rattle.switch.specs.Reading.{as-out, read-out, most-value, read-rest, line-in, parse}
 use Rattle.switch.specs.Writing.{out-bytes, fields-of, line-bytes, Makes, Fit}
 
 abbrev Out-channel : Option ℕ → Type 0
@@ -34,14 +34,14 @@ Out-channel None = Unit {0}
 Out-channel (Some c) = (16 ≤ c) × (c ≤ 31)
 
 -- the out field
-out-number : (n : ℕ) (f : List ℕ) (r o : Option ℕ) → number-in 16 31 f ≡ r → or-refused (field-at n 7) (made-by r) ≡ Ok o → (f ≡ out-bytes o) × Out-channel o
+out-number : (n : ℕ) (f : List ℕ) (r o : Option ℕ) → number-in 16 31 f ≡ r → or-refused (field-at n 7) (as-out r) ≡ Ok o → (f ≡ out-bytes o) × Out-channel o
 out-number n f None o s e = let z : _≡_ {A = ℕ} 0 1 = cc in absurd (omega arith)
 out-number n f (Some c) o s e =
     let b = number-read-is-decimal 16 31 f c (omega arith) s in
     let q : Some c ≡ o = cc in
     subst (λ (p : Option ℕ). (f ≡ out-bytes p) × Out-channel p) q (b .0, (b .1, b .2))
 
-out-first : (n : ℕ) (f : List ℕ) (o : Option ℕ) (d : Bool) → dash-in f ≡ d → or-refused (field-at n 7) (cond d (Some None) (made-by (number-in 16 31 f))) ≡ Ok o → (f ≡ out-bytes o) × Out-channel o
+out-first : (n : ℕ) (f : List ℕ) (o : Option ℕ) (d : Bool) → dash-in f ≡ d → or-refused (field-at n 7) (cond d (Some None) (as-out (number-in 16 31 f))) ≡ Ok o → (f ≡ out-bytes o) × Out-channel o
 out-first n f o true s e = let q : None ≡ o = cc in subst (λ (p : Option ℕ). (f ≡ out-bytes p) × Out-channel p) q (dash-is-its-byte f s, tt)
 out-first n f o false s e = out-number n f (number-in 16 31 f) o refl e
 
@@ -59,8 +59,8 @@ no-dash bs true s e =
 first-out-is-read : (n : ℕ) (o : Option ℕ) (fs : List (List ℕ)) → Out-channel o → read-out n (out-bytes o ∷ fs) ≡ Ok o
 first-out-is-read n None fs r = refl
 first-out-is-read n (Some c) fs r =
-    ap (λ b. or-refused (field-at n 7) (cond b (Some None) (made-by (number-in 16 31 (decimal c))))) (no-dash (decimal c) (dash-in (decimal c)) refl (decimal-is-digits c (omega arith)))
-    ∙ ap (λ m. or-refused (field-at n 7) (made-by m)) (decimal-is-read 16 31 c (r .0) (r .1) (omega arith))
+    ap (λ b. or-refused (field-at n 7) (cond b (Some None) (as-out (number-in 16 31 (decimal c))))) (no-dash (decimal c) (dash-in (decimal c)) refl (decimal-is-digits c (omega arith)))
+    ∙ ap (λ m. or-refused (field-at n 7) (as-out m)) (decimal-is-read 16 31 c (r .0) (r .1) (omega arith))
 
 -- the out field together with the value
 makes : (o : Option ℕ) (v : ℕ) → Out-channel o → v ≤ most-value o → Makes o v

@@ -11,13 +11,13 @@ use Rattle.std.specs.declared.result.Result.{Result}
 use Rattle.std.specs.declared.result.Result.the-variants.{Ok, Err}
 use Rattle.fault.specs.declared.Fault.{Fault}
 use Rattle.fault.specs.declared.Reason.the-variants as reason
-use Rattle.fault.specs.Faults.{unplaced}
+use Rattle.fault.specs.Faults.{unplaced, then}
 use Rattle.text.specs.Fields.{dash-in}
 use Rattle.text.specs.Building.{two-steps}
 use Rattle.text.specs.Lines.{text-limit}
 use Rattle.text.specs.Numbers.{number-in}
 use Rattle.text.specs.Pieces.{pieces}
-use Rattle.text.specs.Places.{letter-at, field-at, full-at, then}
+use Rattle.text.specs.Places.{letter-at, field-at, full-at}
 use Rattle.text.specs.Reading.{head-of, tail-of, or-refused, read-letter, read-number, read-end}
 use Rattle.text.specs.Texts.{strict, on-lines}
 use Rattle.switch.specs.declared.line.SwitchLine.{SwitchLine}
@@ -30,13 +30,14 @@ sheet-limit = 64
 abbrev pub blank : SwitchLine
 blank = record { state = 0; channel = 0; low = 0; high = 0; next = 0; out = None; value = 0 }
 
-abbrev pub made-by : Option ℕ → Option (Option ℕ)
-made-by None = None
-made-by (Some channel) = Some (Some channel)
+-- a channel that was read, as an out
+abbrev pub as-out : Option ℕ → Option (Option ℕ)
+as-out None = None
+as-out (Some channel) = Some (Some channel)
 
 -- `-` for no ticket, or an out channel
 abbrev pub out-in : List ℕ → Option (Option ℕ)
-out-in f = cond (dash-in f) (Some None) (made-by (number-in 16 31 f))
+out-in f = cond (dash-in f) (Some None) (as-out (number-in 16 31 f))
 
 abbrev pub out-in-head : Option (List ℕ) → Option (Option ℕ)
 out-in-head None = None
@@ -53,21 +54,21 @@ most-value (Some channel) = 4294967295
 -- line n, whose fields after the letter are f2
 abbrev pub read-rest : ℕ → List (List ℕ) → Result SwitchLine Fault
 read-rest n f2 =
-    then (read-number n 2 0 255 f2) (λ s.
+    then (read-number n 2 0 255 f2) (λ state.
     let f3 = tail-of f2 in
-    then (read-number n 3 0 15 f3) (λ c.
+    then (read-number n 3 0 15 f3) (λ channel.
     let f4 = tail-of f3 in
-    then (read-number n 4 0 4294967295 f4) (λ l.
+    then (read-number n 4 0 4294967295 f4) (λ low.
     let f5 = tail-of f4 in
-    then (read-number n 5 l 4294967295 f5) (λ h.
+    then (read-number n 5 low 4294967295 f5) (λ high.
     let f6 = tail-of f5 in
-    then (read-number n 6 0 255 f6) (λ x.
+    then (read-number n 6 0 255 f6) (λ next.
     let f7 = tail-of f6 in
-    then (read-out n f7) (λ o.
+    then (read-out n f7) (λ out.
     let f8 = tail-of f7 in
-    then (read-number n 8 0 (most-value o) f8) (λ v.
+    then (read-number n 8 0 (most-value out) f8) (λ value.
     then (read-end n 9 (tail-of f8)) (λ _.
-    Ok (record { state = s; channel = c; low = l; high = h; next = x; out = o; value = v })))))))))
+    Ok (record { state = state; channel = channel; low = low; high = high; next = next; out = out; value = value })))))))))
 
 -- line n with the fields fs: the letter is T
 abbrev pub line-in : ℕ → List (List ℕ) → Result SwitchLine Fault

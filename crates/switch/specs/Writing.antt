@@ -38,6 +38,7 @@ abbrev pub Makes : Option ℕ → ℕ → Type 0
 Makes None value = value ≡ 0
 Makes (Some channel) value = (16 ≤ channel) × (channel ≤ 31) × (value < 2 ^ 32)
 
+-- what a line may hold
 pub record Fit (l : SwitchLine) : Type 0 where
   pub state : l .state < 256
   pub channel : l .channel < 16
@@ -46,7 +47,7 @@ pub record Fit (l : SwitchLine) : Type 0 where
   pub next : l .next < 256
   pub out : Makes (l .out) (l .value)
 
--- what a sheet may hold
+-- what a sheet may hold; that its text keeps the limits on bytes follows
 abbrev pub Sheet : List SwitchLine → Type 0
 Sheet ls = (length ls ≤ sheet-limit) × All Fit ls
 

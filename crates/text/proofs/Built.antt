@@ -11,7 +11,7 @@ use Rattle.text.specs.Building.{two-steps, Built}
 use Rattle.text.specs.Pieces.{pieces}
 use Rattle.text.specs.Texts.{fed, Manner, passes, on-lines, Text-of, Leads}
 use Rattle.text.proofs.Cutting.{Free}
-use Rattle.text.proofs.Refusals.{then-ok, ok-then}
+use Rattle.fault.proofs.Then.{then-ok, ok-then}
 use Rattle.text.proofs.Texts.{accepted-text-is-lines, lines-are-accepted}
 
 -- parse is the inverse of bytes at what fits

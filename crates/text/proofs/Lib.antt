@@ -4,7 +4,6 @@ pub mod Decimals
 pub mod Forms
 pub mod Printing
 pub mod Raggedness
-pub mod Refusals
 pub mod Table
 pub mod Taking
 pub mod Texts

@@ -1,6 +1,6 @@
 -- What is written of fields and lines is printable, short, and holds no mark. Assumes nothing.
-use mathlib.Core.Path.{_≡_, refl, subst, ap, _∙_}
-use mathlib.Core.Bool.{Bool, true, false, _&&_}
+use mathlib.Core.Path.{_≡_, refl, subst}
+use mathlib.Core.Bool.{Bool, true, false}
 use mathlib.Core.List.{List, [], _∷_, _++_}
 use mathlib.Core.Logic.{⊎-elim}
 use Prim.Native.Nat.{ℕ, _+_, _*_, _≤_}

@@ -10,7 +10,7 @@ use Rattle.std.proofs.shelf.Tests.{and-parts, eqb-true}
 use Rattle.std.specs.Written.{decimal}
 use Rattle.std.specs.declared.option.Option.{Option}
 use Rattle.std.specs.declared.option.Option.the-variants.{Some, None}
-use Rattle.std.specs.declared.result.Result.the-variants.{Ok, Err}
+use Rattle.std.specs.declared.result.Result.the-variants.{Ok}
 use Rattle.fault.specs.declared.Fault.{Fault}
 use Rattle.text.specs.Classes.{is-letter}
 use Rattle.text.specs.Fields.{letter-in, dash-in}

@@ -14,10 +14,11 @@ use Rattle.std.specs.declared.result.Result.{Result}
 use Rattle.std.specs.declared.result.Result.the-variants.{Ok, Err}
 use Rattle.fault.specs.declared.Fault.{Fault}
 use Rattle.text.specs.Pieces.{pieces, joined, first, others}
-use Rattle.text.specs.Places.{ragged-at, then}
+use Rattle.text.specs.Places.{ragged-at}
+use Rattle.fault.specs.Faults.{then}
 use Rattle.text.specs.Texts.{fed, Manner, strict, lax, passes, Step, on-line, on-rest, on-lines, Text-of, Leads}
 use Rattle.text.proofs.Cutting.{Free, pieces-mark, pieces-rejoin}
-use Rattle.text.proofs.Refusals.{then-ok, ok-then, cond-ok}
+use Rattle.fault.proofs.Then.{then-ok, ok-then, cond-ok}
 
 text-cons : (m : Manner) (p text : List ℕ) (ps : List (List ℕ)) → Text-of m text ps → Text-of m (p ++ 10 ∷ text) (p ∷ ps)
 text-cons strict p text ps e = ap (λ l. p ++ 10 ∷ l) e

@@ -5,7 +5,7 @@ use Prim.Native.Nat.{ℕ, _+_}
 use Rattle.std.specs.declared.result.Result.{Result}
 use Rattle.std.specs.declared.result.Result.the-variants.{Ok}
 use Rattle.fault.specs.declared.Fault.{Fault}
-use Rattle.text.specs.Places.{then}
+use Rattle.fault.specs.Faults.{then}
 use Rattle.text.specs.Texts.{Step}
 
 -- a line is first read alone, and then put into the state

@@ -15,10 +15,11 @@ use Rattle.text.specs.Classes.{is-printable}
 use Rattle.text.specs.Pieces.{pieces}
 use Rattle.text.specs.Places.{ragged-at}
 
--- the most bytes of a text, and of a line before its line feed
+-- the most bytes of a text
 abbrev pub text-limit : ℕ
 text-limit = 8192
 
+-- the most bytes of a line before its line feed
 abbrev pub line-limit : ℕ
 line-limit = 80
 
@@ -30,14 +31,20 @@ all-printable (b ∷ bs) = is-printable b && all-printable bs
 abbrev pub is-clean : List ℕ → Bool
 is-clean bs = leb (length bs) line-limit && all-printable bs
 
--- the first of the pieces is a ragged line
+-- the first piece of a text is a ragged line; the last one has no line feed
 abbrev pub first-is-ragged : List (List ℕ) → Bool
 first-is-ragged [] = false
 first-is-ragged (p ∷ []) = not (eqb (length p) 0)
 first-is-ragged (p ∷ q ∷ qs) = not (is-clean p)
 
--- what the next line of a text is, where left is what is left of the text: its bytes, and what follows them
+-- left is a clean line, its line feed, and the rest
+pub record Begins-with (left line rest : List ℕ) : Type 0 where
+  pub cut : pieces 10 left ≡ line ∷ pieces 10 rest
+  pub clean : is-clean line ≡ true
+  pub shorter : length rest < length left
+
+-- the next line, where left is what is left of a text behind n - 1 lines
 abbrev pub Next-line : ℕ → List ℕ → Result (Option (RefT (List ℕ) × RefT (List ℕ))) Fault → Type 0
 Next-line n left (Ok None) = left ≡ []
-Next-line n left (Ok (Some r)) = (pieces 10 left ≡ now (r .0) ∷ pieces 10 (now (r .1))) × (is-clean (now (r .0)) ≡ true) × (length (now (r .1)) < length left)
+Next-line n left (Ok (Some r)) = Begins-with left (now (r .0)) (now (r .1))
 Next-line n left (Err f) = (first-is-ragged (pieces 10 left) ≡ true) × (f ≡ ragged-at n)

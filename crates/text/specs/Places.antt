@@ -1,7 +1,5 @@
--- Refusals with their place in a text, and steps of which the first that refuses decides. Assumes nothing.
+-- Refusals with their place in a text. Assumes nothing.
 use Prim.Native.Nat.{ℕ}
-use Rattle.std.specs.declared.result.Result.{Result}
-use Rattle.std.specs.declared.result.Result.the-variants.{Ok, Err}
 use Rattle.fault.specs.declared.Fault.{Fault}
 use Rattle.fault.specs.declared.Reason.{Reason}
 use Rattle.fault.specs.declared.Reason.the-variants as reason
@@ -30,8 +28,3 @@ level-at n k = placed reason.Level n k
 
 abbrev pub full-at : ℕ → Fault
 full-at n = placed reason.Full n 1
-
--- what follows on a value, or the refusal
-abbrev pub then : {A B : Type 0} → Result A Fault → (A → Result B Fault) → Result B Fault
-then (Ok x) next = next x
-then (Err f) next = Err f

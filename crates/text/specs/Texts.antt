@@ -10,7 +10,8 @@ use Rattle.std.specs.declared.result.Result.{Result}
 use Rattle.std.specs.declared.result.Result.the-variants.{Ok, Err}
 use Rattle.fault.specs.declared.Fault.{Fault}
 use Rattle.text.specs.Lines.{is-clean}
-use Rattle.text.specs.Places.{ragged-at, then}
+use Rattle.text.specs.Places.{ragged-at}
+use Rattle.fault.specs.Faults.{then}
 
 -- the text of some lines: each with its line feed
 abbrev pub fed : List (List ℕ) → List ℕ

@@ -2,8 +2,8 @@
 ghost use mathlib.Core.Path.{_≡_};
 ghost use Prim.Native.Nat.{_≤_};
 ghost use Rattle.std.specs.Vec.{made};
+ghost use Rattle.text.specs.Fields.{bytes-if-any, Formed-if-any};
 ghost use Rattle.text.specs.Pieces.{pieces};
-ghost use Rattle.text.specs.Fields.{Formed-if-any, bytes-if-any};
 ghost use Rattle.text.specs.Places.{field-at};
 ghost use Rattle.text.specs.Reading.{left-of, line-of, head-of, Taken, read-letter, read-number, read-end};
 use crate::field::Field;
@@ -19,12 +19,13 @@ pub struct Fields<'a> {
 }
 
 impl<'a> Fields<'a> {
-    pub fn new(text: &'a [u8], line: u16) -> Fields<'a>
-        ensures left { λ r. ⌜ left-of r ≡ pieces 44 (now (text .entry)) ⌝ }
+    // The fields of the bytes of a line, whose number is given.
+    pub fn new(bytes: &'a [u8], line: u16) -> Fields<'a>
+        ensures left { λ r. ⌜ left-of r ≡ pieces 44 (now (bytes .entry)) ⌝ }
         ensures line { λ r. ⌜ line-of r ≡ line ⌝ }
     {
         Fields {
-            rest: Some(text),
+            rest: Some(bytes),
             line,
         }
     }
@@ -36,8 +37,8 @@ impl<'a> Fields<'a> {
         ensures taken { λ _. ⌜ Taken (now (self .entry)) (now (self .exit)) ⌝ }
     {
         match self.rest {
-            Some(text) => {
-                let (part, rest) = pieces::cut(text, b',');
+            Some(bytes) => {
+                let (part, rest) = pieces::cut(bytes, b',');
                 self.rest = rest;
                 Some(Field::of(part))
             }

@@ -7,9 +7,10 @@ use crate::places;
 use fault::Fault;
 use fault::Reason;
 
-// The most bytes of a text, and of a line before its line feed.
+// The most bytes of a text.
 pub const TEXT_LIMIT: usize = 8192;
 
+// The most bytes of a line before its line feed.
 pub const LINE_LIMIT: usize = 80;
 
 // Short enough, and each byte printable.

@@ -16,4 +16,4 @@ returns-in-rest c =
 pub returns : need.returns
 returns c =
     let q = line-and-rest (c .args .left .now) (c .cut .result .0 .now) (c .cut .result .1) (c .cut .ensures) (c .in-Some .rest) (c .in-Some .is) in
-    (q, sym (c .if-not-is-clean .ensures tt), shorter 10 (c .args .left .now) (c .cut .result .0 .now) (c .in-Some .rest .now) q)
+    record { cut = q; clean = sym (c .if-not-is-clean .ensures tt); shorter = shorter 10 (c .args .left .now) (c .cut .result .0 .now) (c .in-Some .rest .now) q }
