@@ -17,12 +17,12 @@ use Rattle.text.specs.Places.{ragged-at, full-at}
 use Rattle.fault.specs.Faults.{then}
 use Rattle.text.specs.Texts.{strict, on-lines}
 use Rattle.switch.specs.declared.line.SwitchLine.{SwitchLine}
-use Rattle.switch.specs.Reading.{blank, line-in, parse, keep, reading, Filled}
+use Rattle.switch.specs.Reading.{sheet-limit, blank, line-in, parse, keep, reading, Filled}
 
 -- count lines are read, blanks follow them, and what is left gives the result
 pub record Read-so-far (text left : List ℕ) (count : ℕ) (lines : List SwitchLine) : Type 0 where
-  pub few : count ≤ 64
-  pub room : 64 ≤ length lines
+  pub few : count ≤ sheet-limit
+  pub room : sheet-limit ≤ length lines
   pub rest : drop count lines ≡ replicate (length lines - count) blank
   pub same : reading text ≡ on-lines strict (two-steps parse keep) (take count lines) count (pieces 10 left)
 

@@ -4,7 +4,7 @@ ghost use Prim.Native.Nat.{_≤_};
 ghost use lib.ListN.{length, replicate};
 ghost use Rattle.text.specs.Pieces.{pieces};
 ghost use Rattle.text.specs.Reading.{left-of, line-of, Taken};
-ghost use Rattle.switch.specs.Reading.{blank, read-out, read-rest, line-in, reading, Filled, answer, lines-after};
+ghost use Rattle.switch.specs.Reading.{sheet-limit, blank, read-out, read-rest, line-in, reading, Filled, answer, lines-after};
 ghost use Rattle.switch.specs.Writing.{Accepts, Reading-inverts-writing};
 use crate::line::SwitchLine;
 use fault::Fault;
@@ -73,7 +73,7 @@ fn read_line(line: &[u8], number: u16) -> Result<SwitchLine, Fault>
 
 // The lines of a text, each into its place of blank lines; what a refusal leaves there is open.
 fn fill_lines(text: &[u8], lines: &mut [SwitchLine]) -> Result<usize, Fault>
-    requires room { ⌜ 64 ≤ length (now lines) ⌝ }
+    requires room { ⌜ sheet-limit ≤ length (now lines) ⌝ }
     requires blank { ⌜ now lines ≡ replicate (length (now lines)) blank ⌝ }
     ensures { λ r. ⌜ Filled (reading (now (text .entry))) r (now (lines .exit)) ⌝ }
 {
