@@ -4,7 +4,8 @@ ghost use mathlib.Core.List.{_∷_, []};
 ghost use lib.Chars.{codes};
 ghost use Rattle.std.specs.Written.{decimal};
 ghost use Rattle.print.specs.Appending.{Appends};
-ghost use Rattle.print.specs.Lines.{keyword-text, entry-text, rest-text, line-text};
+ghost use Rattle.print.specs.Lines.{keyword-text, entry-text, rest-text, line-text, fault-line};
+use fault::Fault;
 use std::alloc::AllocError;
 
 // The words that lines are printed with.
@@ -13,6 +14,10 @@ pub enum Keyword {
     In,
     Out,
     Batch,
+    Fault,
+    Turn,
+    Ended,
+    Stalled,
     Refused,
 }
 
@@ -24,7 +29,11 @@ impl Keyword {
             Keyword::In => b"I",
             Keyword::Out => b"O",
             Keyword::Batch => b"B",
-            Keyword::Refused => b"R",
+            Keyword::Fault => b"R",
+            Keyword::Turn => b"T",
+            Keyword::Ended => b"ended",
+            Keyword::Stalled => b"stalled",
+            Keyword::Refused => b"refused",
         }
     }
 }
@@ -42,6 +51,19 @@ pub fn put_line(out: &mut Vec<u8>, word: Keyword, entries: &[Entry]) -> Result<(
 {
     put_bytes(out, word.text())?;
     put_rest(out, entries)
+}
+
+// The refusal of a part of the input.
+pub fn put_fault(out: &mut Vec<u8>, part: u8, fault: Fault) -> Result<(), AllocError>
+    ensures { λ r. ⌜ Appends (now (out .entry)) (fault-line part fault) r (now (out .exit)) ⌝ }
+{
+    let entries = [
+        Entry::Number(part as u64),
+        Entry::Number(fault.reason.number() as u64),
+        Entry::Number(fault.line as u64),
+        Entry::Number(fault.field as u64),
+    ];
+    put_line(out, Keyword::Fault, &entries)
 }
 
 fn put_rest(out: &mut Vec<u8>, entries: &[Entry]) -> Result<(), AllocError>

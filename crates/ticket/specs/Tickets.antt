@@ -44,6 +44,10 @@ decoded bytes =
     (cond (has-channel bytes) (Ok (record { channel = getD bytes 0 0; value = value-in bytes })) (Err (unplaced reason.Channel)))
     (Err (unplaced reason.Record))
 
+-- where only in-tickets are wanted, the mark of an out-ticket is wrong
+abbrev pub decoded-in : List ℕ → Result Ticket Fault
+decoded-in bytes = cond (eqb (getD bytes 1 0) 79) (Err (unplaced reason.Record)) (decoded bytes)
+
 -- a channel that there is, and a value of 32 bits
 pub record Proper (t : Ticket) : Type 0 where
   pub known : t .channel < 32

@@ -2,7 +2,7 @@
 ghost use mathlib.Core.Path.{_≡_};
 ghost use Prim.Native.Nat.{_<_};
 ghost use Rattle.std.specs.declared.result.Result.the-variants.{Ok};
-ghost use Rattle.ticket.specs.Tickets.{is-in, encoded, decoded, Decodes};
+ghost use Rattle.ticket.specs.Tickets.{is-in, encoded, decoded, decoded-in, Decodes};
 use fault::Fault;
 use fault::Reason;
 
@@ -13,6 +13,12 @@ pub struct Ticket {
 }
 
 impl Ticket {
+    // What a lent place holds where no ticket was put into it.
+    pub const BLANK: Ticket = Ticket {
+        channel: 0,
+        value: 0,
+    };
+
     // In-tickets have the channels 0 to 15, out-tickets 16 to 31.
     pub fn is_in(&self) -> bool
         ensures { λ r. ⌜ r ≡ is-in (now (self .entry) .channel) ⌝ }
@@ -41,6 +47,16 @@ impl Ticket {
             }),
             [_, b'I' | b'O', _, _, _, _, 0, 0] => Err(Fault::unplaced(Reason::Channel)),
             _ => Err(Fault::unplaced(Reason::Record)),
+        }
+    }
+
+    // Where only in-tickets are wanted, the mark of an out-ticket is wrong.
+    pub fn decode_in(bytes: &[u8]) -> Result<Ticket, Fault>
+        ensures { λ r. ⌜ r ≡ decoded-in (now (bytes .entry)) ⌝ }
+    {
+        match bytes {
+            [_, b'O', ..] => Err(Fault::unplaced(Reason::Record)),
+            _ => Ticket::decode(bytes),
         }
     }
 }
