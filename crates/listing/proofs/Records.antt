@@ -19,7 +19,8 @@ use Rattle.ticket.specs.Tickets.{decoded}
 use Rattle.batch.specs.Batches.{tickets-of, batch}
 use Rattle.batch.specs.Level.{level-of, batch-level}
 use Rattle.batch.proofs.Batches.{batch-whole}
-use Rattle.listing.specs.Listing.{ticket-line, level-line, fault-line, told, listing, record-line, first-lines, record-lines}
+use Rattle.print.specs.Lines.{fault-line}
+use Rattle.listing.specs.Listing.{ticket-line, level-line, tickets-part, told, listing, record-line, first-lines, record-lines}
 
 pub record-lines-more : (bytes first rest : List ℕ) → bytes ≡ first ++ rest → length first ≡ 8 → record-lines bytes ≡ record-line (decoded first) ++ record-lines rest
 record-lines-more bytes first rest e long =
@@ -51,10 +52,10 @@ module _ (L : Levels) (sheet : LevelSheet) (bytes : List ℕ) where
       ∙ ap (λ xs. xs ++ level-line (level-of L sheet ts)) (sym (lines-of-tickets (length bytes / 8) bytes ts (batch-whole bytes ts (read .1) .1)))
       ∙ ap (λ n. record-lines bytes ++ level-line n) (same-ok (level-of L sheet ts) j (read .2))
 
-  refused-by : (known : Result (Unit {0}) Fault) (read : Result (List Ticket) Fault) (f : Fault) → then known (λ _. then read (λ ts. Ok (level-of L sheet ts))) ≡ Err f → told L sheet (then known (λ _. read)) ≡ fault-line f
+  refused-by : (known : Result (Unit {0}) Fault) (read : Result (List Ticket) Fault) (f : Fault) → then known (λ _. then read (λ ts. Ok (level-of L sheet ts))) ≡ Err f → told L sheet (then known (λ _. read)) ≡ fault-line tickets-part f
   refused-by (Ok u) (Ok ts) f e = absurd (ok-not-err _ f e)
-  refused-by (Ok u) (Err g) f e = ap fault-line (same-err {X = ℕ} g f e)
-  refused-by (Err g) read f e = ap fault-line (same-err {X = ℕ} g f e)
+  refused-by (Ok u) (Err g) f e = ap (fault-line tickets-part) (same-err {X = ℕ} g f e)
+  refused-by (Err g) read f e = ap (fault-line tickets-part) (same-err {X = ℕ} g f e)
 
-  pub listing-refused : (f : Fault) → batch-level L sheet bytes ≡ Err f → listing L sheet bytes ≡ fault-line f
+  pub listing-refused : (f : Fault) → batch-level L sheet bytes ≡ Err f → listing L sheet bytes ≡ fault-line tickets-part f
   listing-refused f e = refused-by (checked L sheet) (batch bytes) f e

@@ -7,11 +7,11 @@ use Rattle.std.specs.declared.result.Result.{Result}
 use Rattle.std.specs.declared.result.Result.the-variants.{Ok, Err}
 use Rattle.std.specs.shelf.Lists.{joined}
 use Rattle.fault.specs.declared.Fault.{Fault}
-use Rattle.fault.specs.Faults.{number-of, then}
+use Rattle.fault.specs.Faults.{then}
 use Rattle.levels.specs.Scheme.{Levels}
 use Rattle.print.specs.declared.Entry.the-variants.{Number}
 use Rattle.print.specs.declared.Keyword.the-variants as keyword
-use Rattle.print.specs.Lines.{line-text}
+use Rattle.print.specs.Lines.{line-text, fault-line}
 use Rattle.sheet.specs.declared.LevelSheet.{LevelSheet}
 use Rattle.sheet.specs.Sheets.{checked}
 use Rattle.ticket.specs.declared.Ticket.{Ticket}
@@ -25,12 +25,13 @@ ticket-line t = line-text (cond (is-in (t .channel)) keyword.In keyword.Out) (Nu
 abbrev pub level-line : ℕ → List ℕ
 level-line level = line-text keyword.Batch (Number level ∷ [])
 
-abbrev pub fault-line : Fault → List ℕ
-fault-line f = line-text keyword.Refused (Number (number-of (f .reason)) ∷ Number (f .line) ∷ Number (f .field) ∷ [])
+-- the part of the input that holds the tickets
+abbrev pub tickets-part : ℕ
+tickets-part = 3
 
 abbrev pub told : Levels → LevelSheet → Result (List Ticket) Fault → List ℕ
 told L sheet (Ok ts) = joined ticket-line ts ++ level-line (level-of L sheet ts)
-told L sheet (Err f) = fault-line f
+told L sheet (Err f) = fault-line tickets-part f
 
 abbrev pub listing : Levels → LevelSheet → List ℕ → List ℕ
 listing L sheet bytes = told L sheet (then (checked L sheet) (λ _. batch bytes))

@@ -2,16 +2,19 @@
 ghost use mathlib.Core.Path.{_≡_};
 ghost use Rattle.print.specs.Appending.{Appends};
 ghost use Rattle.ticket.specs.Tickets.{decoded};
-ghost use Rattle.listing.specs.Listing.{ticket-line, record-line, record-lines, level-line, fault-line, listing};
+ghost use Rattle.listing.specs.Listing.{ticket-line, record-line, record-lines, level-line, listing};
 use batch::level_of_batch;
-use fault::Fault;
 use levels::Scheme;
 use print::Entry;
 use print::Keyword;
+use print::put_fault;
 use print::put_line;
 use sheet::LevelSheet;
 use std::alloc::AllocError;
 use ticket::Ticket;
+
+// The part of the input that holds the tickets.
+const TICKETS_PART: u8 = 3;
 
 // A line for each ticket and then the level of the batch, or the refusal alone.
 pub fn list_batch<S: Scheme>(
@@ -27,7 +30,7 @@ pub fn list_batch<S: Scheme>(
             put_tickets(out, bytes)?;
             put_level(out, level)
         }
-        Err(fault) => put_fault(out, fault),
+        Err(fault) => put_fault(out, TICKETS_PART, fault),
     }
 }
 
@@ -69,15 +72,4 @@ fn put_level(out: &mut Vec<u8>, level: u8) -> Result<(), AllocError>
     ensures { λ r. ⌜ Appends (now (out .entry)) (level-line level) r (now (out .exit)) ⌝ }
 {
     put_line(out, Keyword::Batch, &[Entry::Number(level as u64)])
-}
-
-fn put_fault(out: &mut Vec<u8>, fault: Fault) -> Result<(), AllocError>
-    ensures { λ r. ⌜ Appends (now (out .entry)) (fault-line fault) r (now (out .exit)) ⌝ }
-{
-    let entries = [
-        Entry::Number(fault.reason.number() as u64),
-        Entry::Number(fault.line as u64),
-        Entry::Number(fault.field as u64),
-    ];
-    put_line(out, Keyword::Refused, &entries)
 }

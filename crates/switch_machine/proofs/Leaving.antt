@@ -8,7 +8,7 @@ use borrow.Author.Needs.{needs}
 use lib.Dec.{eqb}
 use lib.ListN.{length, take, drop, replicate}
 use Rattle.std.proofs.shelf.Elements.{all-take}
-use Rattle.std.proofs.shelf.Lists.{take-append-drop, length-take-le, length-drop}
+use Rattle.std.proofs.shelf.Lists.{take-append-drop, length-take-le, length-drop, length-append, length-replicate}
 use Rattle.std.proofs.shelf.Tests.{and-parts, and-from, eqb-true, lt-ltb, le-leb, lt-leb, eq-eqb, false≢true}
 use Rattle.std.specs.declared.option.Option.{Option}
 use Rattle.std.specs.declared.option.Option.the-variants.{Some, None}
@@ -88,3 +88,11 @@ loads lines long b is = rw (le-leb sheet-limit (length lines) long, is)
 
 pub too-few : (lines : List SwitchLine) → length lines < sheet-limit → loading lines ≡ Err (unplaced reason.Slip)
 too-few lines few = rw (lt-leb sheet-limit (length lines) few)
+
+-- what a text left is always taken
+pub read-lines-load : (text : List ℕ) (ls : List SwitchLine) (n : ℕ) → reading text ≡ Ok ls → sheet-limit ≤ n → loading (padded n (Ok ls)) ≡ Ok tt
+read-lines-load text ls n read room =
+    let few = reading-inverts-writing text ls .0 read .1 .0 in
+    let long : length (padded n (Ok ls)) ≡ n = omega (arith, length-append ls (replicate (n - length ls) blank), length-replicate (n - length ls) blank) in
+    let left = leaves-left text (padded n (Ok ls)) (ls, read, ap (λ k. ls ++ replicate (k - length ls) blank) (sym long)) in
+    loads (padded n (Ok ls)) (omega arith) true left

@@ -1,6 +1,6 @@
 use mathlib.Core.Path.{sym}
 use Rattle.print.proofs.Appending.{appends-both, appends-first}
-use Rattle.listing.specs.Listing.{record-lines, level-line, fault-line}
+use Rattle.listing.specs.Listing.{record-lines, level-line}
 use Rattle.listing.proofs.Records.{listing-accepted, listing-refused}
 use Rattle.listing.proofs.list_batch.Needs as need
 

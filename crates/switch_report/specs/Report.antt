@@ -1,0 +1,40 @@
+-- What is printed of an input that is a switch sheet, a line `-`, and in-tickets. Assumes nothing.
+use mathlib.Core.Bool.{true, cond}
+use mathlib.Core.List.{List}
+use Prim.Native.Nat.{ℕ, _%_}
+use lib.Dec.{eqb}
+use lib.ListN.{length}
+use Rattle.std.specs.declared.option.Option.{Option}
+use Rattle.std.specs.declared.option.Option.the-variants.{Some, None}
+use Rattle.std.specs.declared.result.Result.{Result}
+use Rattle.std.specs.declared.result.Result.the-variants.{Ok, Err}
+use Rattle.fault.specs.declared.Fault.{Fault}
+use Rattle.fault.specs.declared.Reason.the-variants as reason
+use Rattle.fault.specs.Faults.{unplaced}
+use Rattle.machine.specs.Meaning.{Meaning}
+use Rattle.parts.specs.Parts.{before-mark, after-mark}
+use Rattle.print.specs.Lines.{fault-line}
+use Rattle.reactions.specs.Reactions.{reaction-lines}
+use Rattle.switch.specs.declared.line.SwitchLine.{SwitchLine}
+use Rattle.switch.specs.Reading.{reading, padded}
+use Rattle.switch_machine.specs.Switching.{switched}
+
+-- the steps that a reaction may take
+abbrev pub allowance : ℕ
+allowance = 1000
+
+-- the machine fed the tickets of part 2, which have to be whole
+abbrev pub fed-lines : Meaning → List ℕ → List ℕ
+fed-lines means bytes = cond (eqb (length bytes % 8) 0) (reaction-lines means allowance bytes) (fault-line 2 (unplaced reason.Record))
+
+abbrev pub sheet-lines : Result (List SwitchLine) Fault → List ℕ → List ℕ
+sheet-lines (Ok ls) bytes = fed-lines (switched (padded 64 (Ok ls))) bytes
+sheet-lines (Err f) bytes = fault-line 1 f
+
+-- an input without the line `-` is refused as a whole
+abbrev pub part-lines : List ℕ → Option (List ℕ) → List ℕ
+part-lines sheet None = fault-line 0 (unplaced reason.Field)
+part-lines sheet (Some bytes) = sheet-lines (reading sheet) bytes
+
+abbrev pub report : List ℕ → List ℕ
+report input = part-lines (before-mark true input) (after-mark true input)
