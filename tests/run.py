@@ -3,24 +3,60 @@
 
 The last line is 'N passed, M failed'; the status is 0 only where something ran and nothing failed."""
 import pathlib
+import re
 import subprocess
 import sys
 
 ROOT = pathlib.Path(__file__).resolve().parent.parent
 
 
-def read_table(path):
-    """The cases of a table: a line each, the input in hexadecimal, ' = ', the output with '/' for a line end."""
-    for number, line in enumerate(path.read_text().splitlines(), 1):
+def read_table(name):
+    """The cases of a table: a line each, what is given and what is wanted with ' = ' between them."""
+    for number, line in enumerate((ROOT / "tests" / name).read_text().splitlines(), 1):
         if line and not line.startswith("#"):
-            given, wanted = line.split("=")
-            yield f"{path.name}:{number}", bytes.fromhex(given), wanted.strip().replace("/", "\n").encode()
+            given, wanted = re.fullmatch(r"(.*?) ?= (.*)", line).groups()
+            yield f"{name}:{number}", given, wanted
+
+
+def text(given):
+    """A text with '/' for a line end and \\xNN for a byte."""
+    return re.sub(rb"\\x(..)", lambda m: bytes.fromhex(m[1].decode()), given.replace("/", "\n").encode())
+
+
+def batches():
+    for name, given, wanted in read_table("tickets.txt"):
+        yield name, "tickets", bytes.fromhex(given), wanted.replace("/", "\n").encode()
+
+
+def answer(part, wanted):
+    """What is printed of a text that is this part of the input, with nothing behind it."""
+    return b"" if wanted == "ok" else f"R,{part},{wanted}\n".encode()
+
+
+def switch_sheets():
+    line = b"T,0,0,0,0,0,-,0\n"
+    limits = {
+        "a line of 80 bytes": (b"T,0,0,0,0,0,-," + b"0" * 66 + b"\n", "4,1,8"),
+        "a line of 81 bytes": (b"T,0,0,0,0,0,-," + b"0" * 67 + b"\n", "2,1,0"),
+        "64 lines": (line * 64, "ok"),
+        "65 lines": (line * 65, "7,65,1"),
+        "a bad line after 64": (line * 64 + b"T,0\n", "4,65,3"),
+        "8192 bytes": (line * 512, "7,65,1"),
+        "8193 bytes": (line * 512 + b"\n", "1,0,0"),
+        "8193 bad bytes": (b"\xff" * 8192 + b"\n", "1,0,0"),
+    }
+    for name, (given, wanted) in limits.items():
+        yield name, "react", given + b"-\n", answer(1, wanted)
+    for name, given, wanted in read_table("switch.txt"):
+        # A last line without its line feed cannot stand before the line `-`: the tests in crates/reader_tests have those.
+        if given == "" or given.endswith("/"):
+            yield name, "react", text(given) + b"-\n", answer(1, wanted)
 
 
 def difference(program, given, wanted):
     """What is wrong with a run, or None."""
     try:
-        ran = subprocess.run([program], input=given, capture_output=True, timeout=10)
+        ran = subprocess.run([ROOT / "target" / "bin" / program], input=given, capture_output=True, timeout=10)
     except (OSError, subprocess.TimeoutExpired) as error:
         return str(error)
     if ran.returncode != 0:
@@ -32,13 +68,14 @@ def difference(program, given, wanted):
 
 def main():
     passed = failed = 0
-    for name, given, wanted in read_table(ROOT / "tests" / "tickets.txt"):
-        wrong = difference(ROOT / "target" / "bin" / "tickets", given, wanted)
-        if wrong:
-            failed += 1
-            print(f"FAILED {name}: {wrong}")
-        else:
-            passed += 1
+    for cases in (batches, switch_sheets):
+        for name, program, given, wanted in cases():
+            wrong = difference(program, given, wanted)
+            if wrong:
+                failed += 1
+                print(f"FAILED {name}: {wrong}")
+            else:
+                passed += 1
     print(f"{passed} passed, {failed} failed")
     return 0 if passed and not failed else 1
 

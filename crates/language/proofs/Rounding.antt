@@ -51,8 +51,8 @@ module _ (a b : ℕ) (some : 0 < b) where
   rounded-nearest =
       rw (ne-eqb b 0 (omega arith))
       (cond-both (ltb (2 * (a % b)) b) (lower a b) _ (Nearest a b)
-        (λ e. lower-nearest (ltb-true _ _ e))
-        (λ e. cond-both (ltb (lower a b + b) (2 ^ 32)) (lower a b + b) (lower a b) (Nearest a b) (λ _. upper-nearest (ltb-false _ _ e)) (λ f. last-nearest (ltb-false _ _ f))))
+      (λ e. lower-nearest (ltb-true _ _ e))
+      (λ e. cond-both (ltb (lower a b + b) (2 ^ 32)) (lower a b + b) (lower a b) (Nearest a b) (λ _. upper-nearest (ltb-false _ _ e)) (λ f. last-nearest (ltb-false _ _ f))))
 
 pub rounds : (a b : ℕ) → Rounds a b (rounded a b)
 rounds a b = (λ e. cond-true _ _ _ (eq-eqb b 0 e), λ some. rounded-nearest a b some)

@@ -15,7 +15,6 @@ pub data Block : Type 0 where
   repeat : Expr → Block → Block → Block
 
 infixr 60 _⨟_
-
 -- a block, and then another
 abbrev pub _⨟_ : Block → Block → Block
 done ⨟ k = k

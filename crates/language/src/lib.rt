@@ -51,11 +51,9 @@ pub fn round(value: u32, unit: u32) -> u32
 // A theorem: telling a run by blocks is iterating the step of commands.
 pub fn run_is_iterated_step()
     ensures { λ _. ⌜ Run-is-iterated-step ⌝ }
-{
-}
+{}
 
 // A theorem: no reaction stalls with a step and a ticket left, or takes more steps than it is allowed.
 pub fn stalls_only_when_spent()
     ensures { λ _. ⌜ Stalls-only-when-spent ⌝ }
-{
-}
+{}

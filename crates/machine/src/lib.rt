@@ -24,12 +24,6 @@ pub trait Machine {
     ghost lawful: { (m : Self) → Lawful (meaning m) };
 
     // Never refuses. The slip holds the tickets made, and beyond them what it held.
-    fn react(
-        &self,
-        words: &mut Words,
-        ticket: Ticket,
-        allowance: u16,
-        slip: &mut Slip,
-    ) -> Reaction
+    fn react(&self, words: &mut Words, ticket: Ticket, allowance: u16, slip: &mut Slip) -> Reaction
         ensures { λ r. ⌜ Reacts (meaning (now (self .entry)) (now (words .entry)) ticket allowance) (now (slip .entry)) r (now (words .exit)) (now (slip .exit)) ⌝ };
 }

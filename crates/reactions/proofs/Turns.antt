@@ -35,7 +35,7 @@ module _ (o : Outcome) (slip : List Ticket) (r : Reaction) (words′ : List ℕ)
 module _ (means : Meaning) (allowance n : ℕ) (words bytes : List ℕ) where
   pub lines-behind-more : (first rest : List ℕ) → bytes ≡ first ++ rest → length first ≡ 8
       → lines-behind means allowance n words bytes
-        ≡ turn-lines means allowance (n + 1) words (decoded-in first) ++ lines-behind means allowance (n + 1) (turn-words means allowance words (decoded-in first)) rest
+      ≡ turn-lines means allowance (n + 1) words (decoded-in first) ++ lines-behind means allowance (n + 1) (turn-words means allowance words (decoded-in first)) rest
   lines-behind-more first rest e long =
       let count : length (first ++ rest) / 8 ≡ suc (length rest / 8) = omega (arith, length-append first rest) in
       rw (e, count, take-at first rest 8 long, drop-at first rest 8 long)

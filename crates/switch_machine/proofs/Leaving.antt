@@ -53,7 +53,7 @@ left-by-some lines long fit blanks =
     let ls = take sheet-limit lines in
     let count : length ls ≡ sheet-limit = length-take-le sheet-limit lines long in
     let tail : drop sheet-limit lines ≡ replicate (length lines - length ls) blank =
-        blanks-are (drop sheet-limit lines) blanks ∙ ap (λ n. replicate n blank) (length-drop sheet-limit lines ∙ ap (λ n. length lines - n) (sym count)) in
+    blanks-are (drop sheet-limit lines) blanks ∙ ap (λ n. replicate n blank) (length-drop sheet-limit lines ∙ ap (λ n. length lines - n) (sym count)) in
     (written ls, (ls, reading-inverts-writing (written ls) ls .1 (refl, (omega arith, all-take Fit sheet-limit lines fit)), sym (take-append-drop sheet-limit lines) ∙ ap (λ xs. ls ++ xs) tail))
 
 made-if : (out : Option ℕ) (value : ℕ) → Makes out value → is-made out value ≡ true

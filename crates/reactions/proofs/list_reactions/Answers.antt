@@ -30,10 +30,13 @@ loop-record-again g c =
     let size = c .loop-record .inv .2 in
     let more = lines-behind-more means (c .args .allowance) n (c .loop-record .words) (chunks-exact-rest (c .loop-record .record-iterator)) (c .in-Some .record .now) rest (steps .1 .0) (steps .1 .1 ∙ size) in
     let line = turn-lines means (c .args .allowance) (n + 1) (c .loop-record .words) (decoded-in (c .in-Some .record .now)) in
-    let next = more ∙ ap (λ ws. line ++ lines-behind means (c .args .allowance) (n + 1) ws rest) (sym (c .in-Continue-put-turn .ensures tt .words)) in
-    (tt, omega (arith, steps .0, size), steps .0 ∙ size,
-     omega (arith, c .loop-record .inv .3, steps .1 .1, size, ap length (steps .1 .0), length-append (c .in-Some .record .now) rest),
-     appended-more (c .args .out .now) _ _ line _ next (c .loop-record .out) (c .put-turn .last .out) (c .loop-record .inv .4) tt (c .in-Continue-put-turn .ensures tt .text))
+    let next = more ∙ ap (λ ws. line ++ lines-behind means (c .args .allowance) (n + 1) ws rest) (sym (c .in-Continue-put-turn .ensures tt .words)) in (
+      tt,
+      omega (arith, steps .0, size),
+      steps .0 ∙ size,
+      omega (arith, c .loop-record .inv .3, steps .1 .1, size, ap length (steps .1 .0), length-append (c .in-Some .record .now) rest),
+      appended-more (c .args .out .now) _ _ line _ next (c .loop-record .out) (c .put-turn .last .out) (c .loop-record .inv .4) tt (c .in-Continue-put-turn .ensures tt .text),
+    )
 
 pub returns-in-Break-put-turn : need.returns-in-Break-put-turn
 returns-in-Break-put-turn g c =

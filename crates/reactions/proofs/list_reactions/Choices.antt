@@ -14,4 +14,4 @@ Inv-loop-record g l =
     × (chunks-exact-size (l .record-iterator) ≡ 8)
     × (8 * l .n + length (chunks-exact-rest (l .record-iterator)) ≡ length (l .bytes))
     × Appended (l .entry .out) (reaction-lines (g .M·Machine .meaning (l .machine)) (l .allowance) (l .bytes))
-        (lines-behind (g .M·Machine .meaning (l .machine)) (l .allowance) (l .n) (l .words) (chunks-exact-rest (l .record-iterator))) (l .out)
+    (lines-behind (g .M·Machine .meaning (l .machine)) (l .allowance) (l .n) (l .words) (chunks-exact-rest (l .record-iterator))) (l .out)

@@ -30,8 +30,8 @@ returns c =
     let left = c .in-rest-read-switch .ensures tt .lines ∙ ap (padded 64) (read .1) in
     let rest : after-mark true input ≡ Some bytes = sym (c .cut-part .ensures .rest) ∙ ap bytes-if-any (c .in-Some .is) in
     let text : report input ≡ fed-lines (switched (c .read-switch .last .lines)) bytes =
-        ap (part-lines (before-mark true input)) rest
-        ∙ ap (λ t. sheet-lines (reading t) bytes) (sym (c .cut-part .ensures .part))
-        ∙ ap (λ r. sheet-lines r bytes) (read .1)
-        ∙ ap (λ ls. fed-lines (switched ls) bytes) (sym left) in
+    ap (part-lines (before-mark true input)) rest
+    ∙ ap (λ t. sheet-lines (reading t) bytes) (sym (c .cut-part .ensures .part))
+    ∙ ap (λ r. sheet-lines r bytes) (read .1)
+    ∙ ap (λ ls. fed-lines (switched ls) bytes) (sym left) in
     subst (λ (bs : List _). Appends (c .args .out .now) bs (c .report-lines .result) (c .report-lines .last .out)) (sym text) (c .report-lines .ensures)

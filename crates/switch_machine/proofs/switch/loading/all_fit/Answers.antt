@@ -19,9 +19,10 @@ returns-then-not-is-fit c = record {
 
 pub loop-line-again : need.loop-line-again
 loop-line-again c =
-    let i = c .loop-line .line-index in
-    (each-more is-fit _ i (c .loop-line-test .taken) (sym (c .if-not-is-fit .ensures tt .value)) (c .loop-line .inv .0),
-     all-more Fit (c .args .lines .now) i blank (c .loop-line-test .taken) (c .loop-line .inv .1) (c .if-not-is-fit .ensures tt .fit refl))
+    let i = c .loop-line .line-index in (
+      each-more is-fit _ i (c .loop-line-test .taken) (sym (c .if-not-is-fit .ensures tt .value)) (c .loop-line .inv .0),
+      all-more Fit (c .args .lines .now) i blank (c .loop-line-test .taken) (c .loop-line .inv .1) (c .if-not-is-fit .ensures tt .fit refl),
+    )
 
 pub returns : need.returns
 returns c = record {
