@@ -33,6 +33,69 @@ def switch_sheet(random):
     return "".join(line + "\n" for line in lines).encode()
 
 
+def expression(random, budget):
+    """Terms in prefix order, at most so many."""
+    if budget < 3 or random.random() < 0.45:
+        kind = random.random()
+        if kind < 0.3:
+            return ["x"]
+        if kind < 0.65:
+            return [f"v{random.randint(0, 15) if random.random() < 0.1 else random.randint(0, 3)}"]
+        return [f"k{number(random, 0, LARGEST)}"]
+    left = expression(random, budget - 2)
+    return [random.choice("+-*=<r")] + left + expression(random, budget - 1 - len(left))
+
+
+def row(*fields):
+    return ",".join(map(str, fields))
+
+
+def block(random, depth, size):
+    """The rows of a block, with at most so many more blocks open at once."""
+    rows = []
+    for _ in range(random.randint(0, max(size, 1))):
+        terms = expression(random, random.choice([1, 3, 5, 7, 15]))
+        way = random.random()
+        if way < 0.15:
+            rows.append("S")
+        elif way < 0.45:
+            rows.append(row("A", random.randint(0, 3), *terms))
+        elif way < 0.7:
+            rows.append(row("O", random.randint(16, 19), *terms))
+        elif depth == 0:
+            rows.append("S")
+        elif way < 0.88:
+            rows += [row("I", *terms)] + block(random, depth - 1, size - 1)
+            if random.random() < 0.6:
+                rows += ["E"] + block(random, depth - 1, size - 1)
+            rows.append("X")
+        elif random.random() < 0.7:
+            # A loop that counts variable 3 down from a small number.
+            rows += [row("A", 3, f"k{random.randint(0, 20)}"), "W,v3"] + block(random, depth - 1, size - 2) + ["A,3,-,v3,k1", "X"]
+        else:
+            rows += [row("W", *terms)] + block(random, depth - 1, size - 1) + ["X"]
+    return rows
+
+
+def nested(random):
+    """Blocks in blocks, up to the most that may be open and one past it."""
+    depth = random.choice([7, 8, 8, 9])
+    return ["I,k1"] * depth + ["S"] + ["X"] * depth
+
+
+def program(random):
+    rows = []
+    for channel in random.sample(range(16), 1) + random.sample(range(4), random.randint(0, 3)):
+        rows += [f"H,{channel}"] + (nested(random) if random.random() < 0.05 else block(random, 3, 4)) + ["X"]
+    if random.random() < 0.05:
+        # The most rows, and one more.
+        rows += ["H,14"] + ["S"] * (random.choice([126, 127]) - len(rows)) + ["X"]
+    if random.random() < 0.05:
+        # Terms up to the most and past it.
+        rows += ["H,15"] + ["A,0,+,+,+,+,+,+,+,x,x,x,x,x,x,x,x"] * 34 + [row("A", 0, *["x"])] * random.choice([1, 2, 3]) + ["X"]
+    return "".join(line + "\n" for line in rows).encode()
+
+
 def damaged(random, text):
     """The text with one or two bytes changed, lost or put in, or cut off."""
     text = bytearray(text)
@@ -52,7 +115,8 @@ def perhaps_damaged(random, text):
     return damaged(random, text) if random.random() < 0.2 else text
 
 
-def switch_input(seed):
-    """A whole input of the program `react`."""
+def react_input(seed):
+    """A whole input of the program `react`: a switch sheet or a site program, and tickets."""
     r = random.Random(seed)
-    return perhaps_damaged(r, switch_sheet(r)) + b"-\n" + tickets(r)
+    machine = switch_sheet(r) if r.random() < 0.2 else program(r)
+    return perhaps_damaged(r, machine) + b"-\n" + tickets(r)

@@ -1,5 +1,5 @@
 """What the programs print, from their input's bytes."""
-from .machines import read_switch
+from .machines import read_program, read_switch
 from .texts import CHANNEL, FIELD, RECORD, Fault
 
 
@@ -49,7 +49,7 @@ def report_react(data):
     if batch is None:
         return refusal(0, Fault(FIELD))
     try:
-        machine = read_switch(text)
+        machine = read_switch(text) if text.startswith(b"T") else read_program(text)
     except Fault as fault:
         return refusal(1, fault)
     if len(batch) % 8:
