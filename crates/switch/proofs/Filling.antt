@@ -1,21 +1,21 @@
 -- The loop that reads the lines of a text into lent lines. Assumes nothing.
 use mathlib.Core.Path.{_≡_, sym, ap, subst, _∙_}
-use mathlib.Core.Bool.{true, cond}
+use mathlib.Core.Bool.{true}
 use mathlib.Core.List.{List, [], _∷_, _++_}
 use Prim.Native.Nat.{ℕ, _+_, _-_, _≤_, _<_}
 use native.Mathlib.Omega.{arith}
+use lib.Dec.{leb}
 use lib.ListN.{length, take, drop, set, replicate, length-set}
 use Rattle.std.proofs.shelf.Lists.{take-more-set, drop-set-lt, drop-drop, drop-replicate, length-take-le, take-append-drop}
-use Rattle.std.proofs.shelf.Tests.{lt-leb}
+use Rattle.std.proofs.shelf.Tests.{cond-false, lt-leb}
 use Rattle.std.specs.declared.result.Result.{Result}
 use Rattle.std.specs.declared.result.Result.the-variants.{Ok, Err}
 use Rattle.fault.specs.declared.Fault.{Fault}
 use Rattle.text.specs.Building.{two-steps}
 use Rattle.text.specs.Lines.{is-clean}
 use Rattle.text.specs.Pieces.{pieces}
-use Rattle.text.specs.Places.{ragged-at, full-at}
-use Rattle.fault.specs.Faults.{then}
 use Rattle.text.specs.Texts.{strict, on-lines}
+use Rattle.text.proofs.Steps.{line-is-built}
 use Rattle.switch.specs.declared.line.SwitchLine.{SwitchLine}
 use Rattle.switch.specs.Reading.{sheet-limit, blank, line-in, parse, keep, reading, Filled}
 
@@ -26,28 +26,18 @@ pub record Read-so-far (text left : List ℕ) (count : ℕ) (lines : List Switch
   pub rest : drop count lines ≡ replicate (length lines - count) blank
   pub same : reading text ≡ on-lines strict (two-steps parse keep) (take count lines) count (pieces 10 left)
 
--- the lines after what the next one gives
-abbrev after : ℕ → List ℕ → Result (List SwitchLine) Fault → Result (List SwitchLine) Fault
-after n rest r = then r (λ ls. on-lines strict (two-steps parse keep) ls n (pieces 10 rest))
-
 module _ {text left : List ℕ} {count : ℕ} {lines : List SwitchLine} (s : Read-so-far text left count lines) where
   taken : length (take count lines) ≡ count
   taken = length-take-le count lines (let a = s .few in let b = s .room in omega arith)
 
   module _ (p rest : List ℕ) (e : pieces 10 left ≡ p ∷ pieces 10 rest) (clean : is-clean p ≡ true) where
-    by-line : reading text ≡ after (count + 1) rest (then (parse (count + 1) p) (λ l. keep (take count lines) (count + 1) l))
-    by-line =
-        s .same
-        ∙ ap (on-lines strict (two-steps parse keep) (take count lines) count) e
-        ∙ ap (λ b. after (count + 1) rest (cond b (two-steps parse keep (take count lines) (count + 1) p) (Err (ragged-at (count + 1))))) clean
-
     module _ (l : SwitchLine) (h : line-in (count + 1) (pieces 44 p) ≡ Ok l) where
-      kept-line : count < 64 → reading text ≡ after (count + 1) rest (Ok (take count lines ++ l ∷ []))
+      kept-line : count < 64 → reading text ≡ on-lines strict (two-steps parse keep) (take count lines ++ l ∷ []) (count + 1) (pieces 10 rest)
       kept-line lt =
           let t = taken in
-          by-line
-          ∙ ap (λ r. after (count + 1) rest (then r (λ l. keep (take count lines) (count + 1) l))) h
-          ∙ ap (λ b. after (count + 1) rest (cond b (Err (full-at (count + 1))) (Ok (take count lines ++ l ∷ [])))) (lt-leb 64 (length (take count lines)) (omega arith))
+          s .same
+          ∙ line-is-built parse keep (take count lines) count left p rest e clean l (Ok (take count lines ++ l ∷ [])) h
+            (cond-false (leb 64 (length (take count lines))) _ _ (lt-leb 64 (length (take count lines)) (omega arith)))
 
       pub one-more : count < 64 → Read-so-far text rest (count + 1) (set lines count l)
       one-more lt =

@@ -6,7 +6,6 @@ use Prim.Native.Nat.{ℕ, _^_, _≤_, _<_}
 use native.Mathlib.Omega.{arith}
 use lib.Dec.{eqb}
 use lib.ListN.{length}
-use Rattle.std.proofs.shelf.Decimals.{length-decimal-le}
 use Rattle.std.proofs.shelf.Tests.{eqb-true}
 use Rattle.std.specs.Written.{decimal}
 use Rattle.std.specs.declared.option.Option.{Option}
@@ -20,10 +19,11 @@ use Rattle.text.specs.Numbers.{all-digits, number-in}
 use Rattle.text.specs.Pieces.{pieces, joined}
 use Rattle.text.specs.Places.{letter-at, field-at}
 use Rattle.text.specs.Reading.{tail-of, or-refused, read-letter, read-number, read-end}
-use Rattle.text.proofs.Cutting.{Free, pieces-rejoin, joined-pieces-part}
+use Rattle.text.proofs.Cutting.{pieces-rejoin, joined-pieces-part}
 use Rattle.text.proofs.Decimals.{number-read-is-decimal, decimal-is-digits, decimal-is-read}
-use Rattle.text.proofs.Printing.{digits-are-printable, digits-are-free, printable-marked, length-marked, short-printable-is-clean}
+use Rattle.text.proofs.Printing.{printable-marked, length-marked, short-printable-is-clean}
 use Rattle.text.proofs.Taking.{letter-read-is-first, dash-is-its-byte, number-read-is-first, first-decimal-is-read, end-read-is-no-field}
+use Rattle.text.proofs.WrittenFields.{Written-well, decimal-is-well}
 use Rattle.fault.proofs.Then.{then-ok, ok-then, cond-ok}
 use Rattle.switch.specs.declared.line.SwitchLine.{SwitchLine}
 use Rattle.switch.specs.Reading.{as-out, read-out, most-value, read-rest, line-in, parse}
@@ -140,15 +140,7 @@ rest-forth n l f =
     (ok-then _ (Ok l) (first-decimal-is-read n 8 0 (most-value (l .out)) (l .value) [] (omega arith) (makes-at-most (l .out) (l .value) o) (omega (arith, most-small (l .out))))
     refl))))))
 
--- what is written of a field holds no comma, and is printable and short
-abbrev Written-well : ℕ → List ℕ → Type 0
-Written-well k bs = Free 44 bs × (all-printable bs ≡ true) × (length bs ≤ k)
-
-decimal-is-well : (v : ℕ) → v < 2 ^ 32 → Written-well 10 (decimal v)
-decimal-is-well v h =
-    let d = decimal-is-digits v (omega arith) in
-    (digits-are-free 44 refl (decimal v) d, digits-are-printable (decimal v) d, length-decimal-le 10 v (omega arith) (omega arith) (omega arith))
-
+-- what is written of a line keeps the limits on bytes
 out-is-well : (o : Option ℕ) → Out-channel o → Written-well 10 (out-bytes o)
 out-is-well None r = ((refl, tt), refl, omega arith)
 out-is-well (Some c) r = decimal-is-well c (omega arith)

@@ -4,6 +4,8 @@ pub mod Decimals
 pub mod Forms
 pub mod Printing
 pub mod Raggedness
+pub mod Steps
 pub mod Table
 pub mod Taking
 pub mod Texts
+pub mod WrittenFields
