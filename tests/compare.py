@@ -13,7 +13,8 @@ ROOT = pathlib.Path(__file__).resolve().parent.parent
 
 # program: how its inputs are made, and what it should print of one
 PROGRAMS = {
-    "react": (generate.react_input, reports.report_react),
+    "tickets": (generate.tickets_input, reports.report_tickets),
+    "react": (generate.switch_input, reports.report_react),
 }
 
 

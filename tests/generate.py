@@ -115,8 +115,52 @@ def perhaps_damaged(random, text):
     return damaged(random, text) if random.random() < 0.2 else text
 
 
+def switch_input(seed):
+    """A whole input of the program `react`: a switch sheet and tickets."""
+    r = random.Random(seed)
+    return perhaps_damaged(r, switch_sheet(r)) + b"-\n" + tickets(r)
+
+
 def react_input(seed):
     """A whole input of the program `react`: a switch sheet or a site program, and tickets."""
     r = random.Random(seed)
     machine = switch_sheet(r) if r.random() < 0.2 else program(r)
     return perhaps_damaged(r, machine) + b"-\n" + tickets(r)
+
+
+def scheme(random):
+    """A scheme line, and how many levels it has."""
+    if random.random() < 0.6:
+        count = random.choice([1, 2, 2, 3, 4, 16])
+        return f"chain,{count}\n".encode(), count
+    number = random.randint(0, 4)
+    return f"parties,{number}\n".encode(), 2**number
+
+
+def level_sheet(random, count):
+    names = [f"C,{c}" for c in range(32)] + [f"V,{v}" for v in range(16)]
+    chosen = random.sample(names, random.choice([0, 1, 4, 10, 47, 48]))
+    if chosen and random.random() < 0.05:
+        chosen.append(random.choice(chosen))
+    top = count if random.random() < 0.05 else count - 1
+    return "".join(f"{name},{random.randint(0, top)}\n" for name in chosen).encode()
+
+
+def batch(random):
+    """Tickets in and out."""
+    records = b""
+    for _ in range(random.randint(0, 6)):
+        channel = random.randint(0, 31)
+        record = bytes([channel, 73 if channel < 16 else 79]) + number(random, 0, LARGEST).to_bytes(4, "big") + bytes(2)
+        records += damaged(random, record)[:8].ljust(8, b"\0") if random.random() < 0.03 else record
+    return records if random.random() < 0.95 else records[: max(0, len(records) - random.randint(1, 7))]
+
+
+def tickets_input(seed):
+    """A whole input of the program `tickets`: a scheme, a level sheet, and a batch."""
+    r = random.Random(seed)
+    line, count = scheme(r)
+    if r.random() < 0.05:
+        line = damaged(r, line)
+    sheet = level_sheet(r, count)
+    return line + b"-\n" + (damaged(r, sheet) if r.random() < 0.1 else sheet) + b"-\n" + batch(r)

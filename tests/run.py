@@ -24,8 +24,31 @@ def text(given):
 
 
 def batches():
+    front = b"chain,3\n-\nC,1,1\nC,17,1\nC,2,2\nC,18,2\n-\n"
     for name, given, wanted in read_table("tickets.txt"):
-        yield name, "tickets", bytes.fromhex(given), wanted.replace("/", "\n").encode()
+        yield name, "tickets", front + bytes.fromhex(given), wanted.replace("/", "\n").encode()
+
+
+def level_sheets():
+    line, names = b"C,0,0\n", b"".join(b"C,%d,1\n" % c for c in range(32)) + b"".join(b"V,%d,1\n" % v for v in range(16))
+    limits = {
+        "every name": (names, "ok"),
+        "a line of 80 bytes": (b"C,0," + b"0" * 76 + b"\n", "2,4,1,3"),
+        "a line of 81 bytes": (b"C,0," + b"0" * 77 + b"\n", "2,2,1,0"),
+        "8192 bytes": (line * 1365 + b"\n\n", "2,6,2,2"),
+        "8193 bytes": (line * 1365 + b"\n\n\n", "2,1,0,0"),
+    }
+    for name, (given, wanted) in limits.items():
+        yield name, "tickets", b"chain,2\n-\n" + given + b"-\n", verdict(wanted)
+    for name, given, wanted in read_table("sheets.txt"):
+        scheme, sheet = given.split("|")
+        first = text(scheme) + b"\n" if scheme else b""
+        yield name, "tickets", first + b"-\n" + text(sheet) + b"-\n", verdict(wanted)
+
+
+def verdict(wanted):
+    """What is printed of a scheme and a sheet with no tickets behind them."""
+    return b"B,0\n" if wanted == "ok" else f"R,{wanted}\n".encode()
 
 
 def answer(part, wanted):
@@ -68,7 +91,7 @@ def difference(program, given, wanted):
 
 def main():
     passed = failed = 0
-    for cases in (batches, switch_sheets):
+    for cases in (batches, level_sheets, switch_sheets):
         for name, program, given, wanted in cases():
             wrong = difference(program, given, wanted)
             if wrong:

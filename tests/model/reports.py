@@ -1,5 +1,6 @@
 """What the programs print, from their input's bytes."""
-from .machines import read_program, read_switch
+from .levels import join, lowest, read_scheme, read_sheet
+from .machines import read_switch
 from .texts import CHANNEL, FIELD, RECORD, Fault
 
 
@@ -29,6 +30,42 @@ def decode_in(record):
     return record[0], int.from_bytes(record[2:6], "big")
 
 
+def decode(record):
+    """The channel and value of a ticket, in or out."""
+    if len(record) != 8 or record[1] not in (73, 79) or record[6:] != bytes(2):
+        raise Fault(RECORD)
+    if record[0] > 31 or (record[0] < 16) != (record[1] == 73):
+        raise Fault(CHANNEL)
+    return record[0], int.from_bytes(record[2:6], "big")
+
+
+def batch(data):
+    """The tickets of a run of bytes."""
+    if len(data) % 8:
+        raise Fault(RECORD)
+    return [decode(data[at : at + 8]) for at in range(0, len(data), 8)]
+
+
+def report_tickets(data):
+    line, rest = parts(data)
+    text, records = parts(rest) if rest is not None else (None, None)
+    if records is None or line.count(b"\n") != 1:
+        return refusal(0, Fault(FIELD))
+    part = 1
+    try:
+        scheme = read_scheme(line)
+        part = 2
+        sheet = read_sheet(text, scheme)
+        part = 3
+        tickets = batch(records)
+    except Fault as fault:
+        return refusal(part, fault)
+    level = lowest(scheme)
+    for channel, _ in tickets:
+        level = join(scheme, level, sheet.channels[channel])
+    return "".join(f"{'I' if c < 16 else 'O'},{c},{v}\n" for c, v in tickets) + f"B,{level}\n"
+
+
 def report_reactions(machine, batch):
     out, words = [], [0] * 16
     for n, at in enumerate(range(0, len(batch), 8), 1):
@@ -44,12 +81,12 @@ def report_reactions(machine, batch):
     return "".join(out)
 
 
-def report_react(data):
+def report_react(data, read=read_switch):
     text, batch = parts(data)
     if batch is None:
         return refusal(0, Fault(FIELD))
     try:
-        machine = read_switch(text) if text.startswith(b"T") else read_program(text)
+        machine = read(text)
     except Fault as fault:
         return refusal(1, fault)
     if len(batch) % 8:

@@ -3,14 +3,15 @@ use mathlib.Core.Bool.{Bool, true, false, cond, _&&_}
 use mathlib.Core.List.{List, [], _∷_, _++_}
 use mathlib.Core.Path.{_≡_, refl, sym, ap, _∙_}
 use Prim.Native.Nat.{ℕ, _+_, _-_, _<_, _≤_}
+use native.Mathlib.Nat.{zero-add}
 use native.Mathlib.Omega.{arith}
 use lib.Dec.{eqb, leb}
 use lib.ListN.{length, getD, take, drop}
 use Rattle.std.proofs.shelf.Lists.{drop-more, take-more, append-assoc, append-nil, drop-drop, drop-all, take-all, take-append-drop, getD-drop, length-drop}
-use Rattle.std.proofs.shelf.Tests.{and-parts, leb-true, eqb-true}
+use Rattle.std.proofs.shelf.Tests.{and-parts, leb-true, eqb-true, eq-eqb, ne-eqb}
 use Rattle.std.specs.declared.option.Option.{Option}
 use Rattle.std.specs.declared.option.Option.the-variants.{Some, None}
-use Rattle.parts.specs.Parts.{is-mark, before-mark, after-mark, Cuts}
+use Rattle.parts.specs.Parts.{is-mark, before-mark, after-mark, feeds}
 
 module _ (text : List ℕ) (i : ℕ) (start : Bool) (lt : i < length text) where
   here : drop i text ≡ getD text i 0 ∷ drop (i + 1) text
@@ -62,3 +63,15 @@ module _ (text : List ℕ) (i : ℕ) (start : Bool) (le : length text ≤ i) whe
 
   pub after-all : after-mark true text ≡ after-mark start (drop i text) → None ≡ after-mark true text
   after-all old = sym (old ∙ ap (after-mark start) (drop-all i text le))
+
+-- one byte more of a count of line feeds
+pub feeds-more : (text : List ℕ) (i : ℕ) → i < length text
+    → (getD text i 0 ≡ 10 → feeds (drop i text) ≡ 1 + feeds (drop (i + 1) text)) × ((getD text i 0 ≡ 10 → ⊥) → feeds (drop i text) ≡ feeds (drop (i + 1) text))
+feeds-more text i lt =
+    let next = ap feeds (drop-more text i 0 lt) in (
+      λ e. next ∙ ap (λ b. cond b 1 0 + feeds (drop (i + 1) text)) (eq-eqb (getD text i 0) 10 e),
+      λ n. next ∙ ap (λ b. cond b 1 0 + feeds (drop (i + 1) text)) (ne-eqb (getD text i 0) 10 n) ∙ zero-add (feeds (drop (i + 1) text)),
+    )
+
+pub feeds-all : (text : List ℕ) (i : ℕ) → length text ≤ i → feeds (drop i text) ≡ 0
+feeds-all text i le = ap feeds (drop-all i text le)

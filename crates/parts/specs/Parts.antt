@@ -2,7 +2,7 @@
 use mathlib.Core.Bool.{Bool, true, false, cond, _&&_}
 use mathlib.Core.List.{List, [], _∷_, _++_}
 use mathlib.Core.Path.{_≡_}
-use Prim.Native.Nat.{ℕ}
+use Prim.Native.Nat.{ℕ, _+_}
 use denote.Ref.{now, RefT}
 use lib.Dec.{eqb, leb}
 use lib.ListN.{length, getD, drop}
@@ -31,3 +31,11 @@ bytes-if-any (Some bytes) = Some (now bytes)
 abbrev pub Cuts : List ℕ → List ℕ → Option (List ℕ) → Type 0
 Cuts text part None = text ≡ part
 Cuts text part (Some rest) = text ≡ part ++ 45 ∷ 10 ∷ rest
+
+-- how many line feeds there are
+abbrev pub feeds : List ℕ → ℕ
+feeds [] = 0
+feeds (b ∷ bs) = cond (eqb b 10) 1 0 + feeds bs
+
+abbrev pub is-one-line : List ℕ → Bool
+is-one-line text = eqb (feeds text) 1

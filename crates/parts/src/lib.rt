@@ -1,7 +1,7 @@
 // A text in parts, between lines that are `-` alone.
 ghost use mathlib.Core.Bool.{true};
 ghost use mathlib.Core.Path.{_≡_};
-ghost use Rattle.parts.specs.Parts.{is-mark, before-mark, after-mark, bytes-if-any, Cuts};
+ghost use Rattle.parts.specs.Parts.{is-mark, before-mark, after-mark, bytes-if-any, Cuts, is-one-line};
 
 // The first part, and what follows the line `-` behind it; no rest where there is no such line.
 pub fn cut_part<'a>(text: &'a [u8]) -> (&'a [u8], Option<&'a [u8]>)
@@ -26,4 +26,17 @@ fn is_mark(start: bool, bytes: &[u8]) -> bool
         [b'-', b'\n', ..] => start,
         _ => false,
     }
+}
+
+// Whether there is just one line feed.
+pub fn is_one_line(text: &[u8]) -> bool
+    ensures { λ r. ⌜ r ≡ is-one-line (now (text .entry)) ⌝ }
+{
+    let mut feeds: usize = 0;
+    for &byte in text {
+        if byte == b'\n' {
+            feeds += 1;
+        }
+    }
+    feeds == 1
 }

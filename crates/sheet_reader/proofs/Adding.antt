@@ -74,11 +74,11 @@ module _ (L : Levels) where
   pub following-is-built : (before : List SheetLine) (n : ℕ) (ls : List SheetLine) → Follows before ls → Built (add L) before n ls (before ++ ls)
   following-is-built before n [] h = sym (append-nil before)
   following-is-built before n (l ∷ ls) h = (
-      before ++ l ∷ [],
-      line-is-added before (n + 1) l (h .new .0) (h .levels .0),
-      subst (λ (x : List SheetLine). Built (add L) (before ++ l ∷ []) (n + 1) ls x) (append-assoc before (l ∷ []) ls)
-      (following-is-built (before ++ l ∷ []) (n + 1) ls (record { new = join-new before l ls (h .once .0) (h .new .1); once = h .once .1; levels = h .levels .1 })),
-    )
+    before ++ l ∷ [],
+    line-is-added before (n + 1) l (h .new .0) (h .levels .0),
+    subst (λ (x : List SheetLine). Built (add L) (before ++ l ∷ []) (n + 1) ls x) (append-assoc before (l ∷ []) ls)
+        (following-is-built (before ++ l ∷ []) (n + 1) ls (record { new = join-new before l ls (h .once .0) (h .new .1); once = h .once .1; levels = h .levels .1 })),
+  )
 
 pub all-new : (ls : List SheetLine) → All (λ k. has-name [] (k .name) ≡ false) ls
 all-new [] = tt

@@ -61,14 +61,14 @@ module _ {L : Levels} {text left : List ℕ} {count : ℕ} {flags : List Bool} {
         twice e =
             s .same
             ∙ line-is-built parse (add L) (s .lines) count left p rest (b .cut) (b .clean) l (Err (twice-at (count + 1))) h
-              (name-comes-twice L (s .lines) (count + 1) l (sym flag-tells ∙ e))
+            (name-comes-twice L (s .lines) (count + 1) l (sym flag-tells ∙ e))
 
         module _ (new : getD flags place false ≡ false) where
           pub no-level : L .count ≤ l .level → reading L text ≡ Err (level-at (count + 1) 3)
           no-level le =
               s .same
               ∙ line-is-built parse (add L) (s .lines) count left p rest (b .cut) (b .clean) l (Err (level-at (count + 1) 3)) h
-                (level-is-lacking L (s .lines) (count + 1) l (sym flag-tells ∙ new) le)
+              (level-is-lacking L (s .lines) (count + 1) l (sym flag-tells ∙ new) le)
 
           pub one-more : l .level < L .count → (after : LevelSheet) → after ≡ given sheet (l .name) (l .level) → Read-so-far L text rest (count + 1) (set flags place true) after
           one-more lt after e =
@@ -82,7 +82,7 @@ module _ {L : Levels} {text left : List ℕ} {count : ℕ} {flags : List Bool} {
                 same =
                     s .same
                     ∙ line-is-built parse (add L) (s .lines) count left p rest (b .cut) (b .clean) l (Ok (s .lines ++ l ∷ [])) h
-                      (line-is-added L (s .lines) (count + 1) l (sym flag-tells ∙ new) lt);
+                    (line-is-added L (s .lines) (count + 1) l (sym flag-tells ∙ new) lt);
               }
 
 -- what the answer and the lent sheet are then

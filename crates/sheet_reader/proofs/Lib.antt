@@ -1,5 +1,6 @@
 pub mod Adding
 pub mod Filling
+pub mod Levels
 pub mod Lines
 pub mod Names
 pub mod Sheets

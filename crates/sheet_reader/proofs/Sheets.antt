@@ -62,7 +62,7 @@ module _ (L : Levels) where
       ap (reading L) (h .0)
       ∙ ap (λ b. cond b (lines-in L (written ls)) (Err (unplaced reason.Overlong))) (le-leb (length (written ls)) 8192 (sheet-is-short ls s))
       ∙ written-text-is-accepted parse (add L) line-bytes Fit line-read-is-writing writing-is-read strict [] ls ls f (all-clean ls f) (all-free ls f)
-        (following-is-built L [] 0 ls (record { new = all-new ls; once = s .once; levels = s .levels }))
+      (following-is-built L [] 0 ls (record { new = all-new ls; once = s .once; levels = s .levels }))
 
   by-reading : (t : List ℕ) (x : Result (List SheetLine) Fault) → reading L t ≡ x → Accepts L t (answer x) (sheet-after (L .lowest) x)
   by-reading t (Ok ls) e = let h = reading-is-written t ls e in (ls, h .1, h .0, refl)

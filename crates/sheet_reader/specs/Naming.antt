@@ -3,7 +3,7 @@ use mathlib.Core.Bool.{Bool, false, _||_}
 use mathlib.Core.List.{List, [], _∷_}
 use Prim.Native.Nat.{ℕ, _+_, _<_}
 use lib.Dec.{eqb}
-use lib.ListN.{set}
+use lib.ListN.{getD, set}
 use Rattle.sheet.specs.declared.LevelSheet.{LevelSheet}
 use Rattle.sheet.specs.Sheets.{uniform}
 use Rattle.sheet_reader.specs.declared.line.Name.{Name}
@@ -30,6 +30,11 @@ same-name (Variable v) (Variable w) = eqb v w
 abbrev pub has-name : List SheetLine → Name → Bool
 has-name [] m = false
 has-name (l ∷ ls) m = same-name (l .name) m || has-name ls m
+
+-- the level that a sheet has for a name
+abbrev pub level-of : LevelSheet → Name → ℕ
+level-of sheet (Channel c) = getD (sheet .channels) c 0
+level-of sheet (Variable v) = getD (sheet .variables) v 0
 
 -- the sheet with the level given to the name
 abbrev pub given : LevelSheet → Name → ℕ → LevelSheet

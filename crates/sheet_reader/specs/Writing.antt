@@ -14,7 +14,7 @@ use Rattle.text.specs.Pieces.{joined}
 use Rattle.sheet_reader.specs.declared.line.Name.{Name}
 use Rattle.sheet_reader.specs.declared.line.Name.the-variants.{Channel, Variable}
 use Rattle.sheet_reader.specs.declared.line.SheetLine.{SheetLine}
-use Rattle.sheet_reader.specs.Naming.{Fit-name, sheet-of}
+use Rattle.sheet_reader.specs.Naming.{Fit-name, level-of, sheet-of}
 use Rattle.sheet_reader.specs.Reading.{reading}
 
 -- `C` or `V`
@@ -48,6 +48,12 @@ pub record Fit (l : SheetLine) : Type 0 where
 abbrev pub Once : List SheetLine → Type 0
 Once [] = Unit {0}
 Once (l ∷ ls) = All (λ k. l .name ≡ k .name → ⊥) ls × Once ls
+
+-- the name of each line has its level, and a name that no line has is at the level low
+abbrev pub Lines-give-levels : Type 0
+Lines-give-levels =
+    (low : ℕ) (ls : List SheetLine) → All Fit ls → Once ls
+    → All (λ l. level-of (sheet-of low ls) (l .name) ≡ l .level) ls × ((m : Name) → Fit-name m → All (λ l. m ≡ l .name → ⊥) ls → level-of (sheet-of low ls) m ≡ low)
 
 -- what a sheet may hold for a scheme; that it has at most 48 lines, and that its text keeps the limits on bytes, follows
 pub record Sheet-for (L : Levels) (ls : List SheetLine) : Type 0 where

@@ -6,7 +6,7 @@ ghost use Rattle.std.specs.Vec.{made};
 ghost use Rattle.text.specs.Pieces.{pieces};
 ghost use Rattle.sheet_reader.specs.Naming.{place-of, Fit-name, given};
 ghost use Rattle.sheet_reader.specs.Reading.{line-in, reading, answer, sheet-after, Filled};
-ghost use Rattle.sheet_reader.specs.Writing.{Fit, Accepts, Reading-inverts-writing};
+ghost use Rattle.sheet_reader.specs.Writing.{Fit, Lines-give-levels, Accepts, Reading-inverts-writing};
 use crate::line::Name;
 use crate::line::SheetLine;
 use fault::Fault;
@@ -20,6 +20,7 @@ use text::placed;
 
 // The places of names: those of the channels, and then those of the 16 variables.
 const CHANNELS: usize = 32;
+
 const NAMES: usize = 48;
 
 // One line, whose number is given.
@@ -118,4 +119,9 @@ pub fn read_sheet<S: Scheme>(text: &[u8], scheme: &S, sheet: &mut LevelSheet) ->
 // A theorem: a text is read as some lines exactly if it is the writing of them, and they make a sheet for the scheme.
 pub fn reading_inverts_writing()
     ensures { λ _. ⌜ Reading-inverts-writing ⌝ }
+{}
+
+// A theorem: in the sheet of some lines that have a name each, a line's name has its level, and every other name the lowest.
+pub fn lines_give_levels()
+    ensures { λ _. ⌜ Lines-give-levels ⌝ }
 {}

@@ -37,7 +37,7 @@ module _ {text left : List ℕ} {count : ℕ} {lines : List SwitchLine} (s : Rea
           let t = taken in
           s .same
           ∙ line-is-built parse keep (take count lines) count left p rest e clean l (Ok (take count lines ++ l ∷ [])) h
-            (cond-false (leb 64 (length (take count lines))) _ _ (lt-leb 64 (length (take count lines)) (omega arith)))
+          (cond-false (leb 64 (length (take count lines))) _ _ (lt-leb 64 (length (take count lines)) (omega arith)))
 
       pub one-more : count < 64 → Read-so-far text rest (count + 1) (set lines count l)
       one-more lt =
