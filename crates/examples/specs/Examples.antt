@@ -7,6 +7,9 @@ use Rattle.std.specs.declared.option.Option.the-variants.{Some}
 use Rattle.std.specs.declared.result.Result.the-variants.{Ok, Err}
 use Rattle.fault.specs.declared.Reason.the-variants as reason
 use Rattle.fault.specs.Faults.{number-of, unplaced}
+use Rattle.language.specs.declared.Operator.the-variants.{Minus, Round}
+use Rattle.language.specs.Expression.{constant, binary, value}
+use Rattle.language.specs.Operators.{applied}
 use Rattle.levels.specs.Scheme.{join-of}
 use Rattle.levels.specs.Chain.{chain}
 use Rattle.levels.specs.Parties.{parties}
@@ -23,3 +26,8 @@ pub record Examples : Type 0 where
   pub a-pair-of-chains-4-and-4-has-16-levels : pair (chain 4) (chain 4) .count ≡ 16
   pub a-pair-of-chains-4-and-5-is-refused : is-pair (chain 4) (chain 5) ≡ false
   pub that-refusal-is-9 : number-of reason.Level ≡ 9
+  pub fifteen-by-ten-rounds-to-20 : applied Round 15 10 ≡ 20
+  pub fourteen-by-ten-rounds-to-10 : applied Round 14 10 ≡ 10
+  pub seven-by-zero-stays-7 : applied Round 7 0 ≡ 7
+  pub the-largest-value-by-ten-rounds-down : applied Round 4294967295 10 ≡ 4294967290
+  pub three-minus-five-is-modulo-2-to-the-32 : value 0 [] (binary Minus (constant 3) (constant 5)) ≡ 4294967294

@@ -12,6 +12,7 @@ mod tests {
     use fault::FaultDebug;
     use fault::FaultPartialEq;
     use fault::Reason;
+    use language::Operator;
     use levels::Chain;
     use levels::ChainScheme;
     use levels::Pair;
@@ -39,6 +40,15 @@ mod tests {
             Ticket::decode(&[16, 73, 0, 0, 1, 44, 0, 0]),
             Err(Fault::unplaced(Reason::Channel)),
         )
+    }
+
+    #[test]
+    fn operators() -> Result<(), Fail> {
+        check_eq(Operator::Round.apply(15, 10), 20)?;
+        check_eq(Operator::Round.apply(14, 10), 10)?;
+        check_eq(Operator::Round.apply(7, 0), 7)?;
+        check_eq(Operator::Round.apply(4294967295, 10), 4294967290)?;
+        check_eq(Operator::Minus.apply(3, 5), 4294967294)
     }
 
     #[test]
