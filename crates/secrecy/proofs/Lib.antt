@@ -1,0 +1,7 @@
+pub mod Agreeing
+pub mod Apart
+mod Blocks
+mod Hidden
+pub mod Outcomes
+mod Secure
+mod Together

@@ -1,0 +1,4 @@
+pub mod Derivation
+pub mod Labels
+pub mod Laws
+pub mod Rule
