@@ -1,1 +1,2 @@
 pub mod OnlyLine
+pub mod Schemes

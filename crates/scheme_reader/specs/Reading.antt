@@ -2,6 +2,7 @@
 use mathlib.Core.Bool.{cond}
 use mathlib.Core.List.{List, [], _∷_}
 use Prim.Native.Nat.{ℕ}
+use denote.Ref.{now, RefT}
 use lib.Chars.{codes}
 use lib.Dec.{eqb, leb}
 use lib.ListN.{length}
@@ -57,15 +58,24 @@ abbrev pub line-in : List (List ℕ) → Result Sized-scheme Fault
 line-in [] = Err (letter-at 1)
 line-in (f ∷ fs) = cond (sameBytes f (codes "chain")) (chain-in fs) (cond (sameBytes f (codes "parties")) (parties-in fs) (Err (letter-at 1)))
 
--- a text that is not ragged in its first line, by its pieces: one line, and nothing behind its line feed
-abbrev pub only-line-in : List (List ℕ) → Result Sized-scheme Fault
-only-line-in [] = Err (unplaced reason.Field)
-only-line-in (p ∷ []) = Err (unplaced reason.Field)
-only-line-in (p ∷ q ∷ []) = cond (eqb (length q) 0) (line-in (pieces 44 p)) (Err (unplaced reason.Field))
-only-line-in (p ∷ q ∷ r ∷ rs) = Err (unplaced reason.Field)
+-- the one line of a text whose first line is not ragged, by its pieces: nothing stands behind its line feed
+abbrev pub only-piece : List (List ℕ) → Result (List ℕ) Fault
+only-piece [] = Err (unplaced reason.Field)
+only-piece (p ∷ []) = Err (unplaced reason.Field)
+only-piece (p ∷ q ∷ []) = cond (eqb (length q) 0) (Ok p) (Err (unplaced reason.Field))
+only-piece (p ∷ q ∷ r ∷ rs) = Err (unplaced reason.Field)
+
+-- the one line of a text; where there are fewer or more, the refusal has no place
+abbrev pub only-line : List ℕ → Result (List ℕ) Fault
+only-line t =
+    cond (leb (length t) text-limit)
+    (cond (first-is-ragged (pieces 10 t)) (Err (ragged-at 1)) (only-piece (pieces 10 t)))
+    (Err (unplaced reason.Overlong))
+
+-- the bytes of a line that was found
+abbrev pub seen : Result (RefT (List ℕ)) Fault → Result (List ℕ) Fault
+seen (Ok line) = Ok (now line)
+seen (Err f) = Err f
 
 abbrev pub reading : List ℕ → Result Sized-scheme Fault
-reading t =
-    cond (leb (length t) text-limit)
-    (cond (first-is-ragged (pieces 10 t)) (Err (ragged-at 1)) (only-line-in (pieces 10 t)))
-    (Err (unplaced reason.Overlong))
+reading t = then (only-line t) (λ p. line-in (pieces 44 p))

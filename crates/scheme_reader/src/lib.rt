@@ -2,7 +2,8 @@
 ghost use mathlib.Core.Path.{_≡_};
 ghost use Rattle.std.specs.shelf.Text.{sameBytes};
 ghost use Rattle.text.specs.Pieces.{pieces, pieces-left};
-ghost use Rattle.scheme_reader.specs.Reading.{size-in, chain-in, parties-in, line-in, reading, told};
+ghost use Rattle.scheme_reader.specs.Reading.{told, size-in, chain-in, parties-in, line-in, only-line, seen, reading};
+ghost use Rattle.scheme_reader.specs.Writing.{Reading-inverts-writing, Accepts};
 use fault::Fault;
 use fault::Reason;
 use levels::Chain;
@@ -69,9 +70,9 @@ fn read_line(line: &[u8]) -> Result<SchemeChoice, Fault>
     }
 }
 
-// The scheme that a text of one line names. Where there are fewer lines or more, the refusal has no place.
-pub fn read_scheme(text: &[u8]) -> Result<SchemeChoice, Fault>
-    ensures { λ r. ⌜ told r ≡ reading (now (text .entry)) ⌝ }
+// The one line of a text. Where there are fewer lines or more, the refusal has no place.
+fn only_line<'a>(text: &'a [u8]) -> Result<&'a [u8], Fault>
+    ensures { λ r. ⌜ seen r ≡ only-line (now (text .entry)) ⌝ }
 {
     if text.len() > TEXT_LIMIT {
         return Err(Fault::unplaced(Reason::Overlong));
@@ -82,5 +83,18 @@ pub fn read_scheme(text: &[u8]) -> Result<SchemeChoice, Fault>
     if !rest.is_empty() {
         return Err(Fault::unplaced(Reason::Field));
     }
-    read_line(line)
+    Ok(line)
 }
+
+// The scheme that a text of one line names.
+pub fn read_scheme(text: &[u8]) -> Result<SchemeChoice, Fault>
+    ensures value { λ r. ⌜ told r ≡ reading (now (text .entry)) ⌝ }
+    ensures accepts { λ r. ⌜ Accepts (now (text .entry)) r ⌝ }
+{
+    read_line(only_line(text)?)
+}
+
+// A theorem: a text is read as a scheme exactly if it is the writing of it, and there is one of that size.
+pub fn reading_inverts_writing()
+    ensures { λ _. ⌜ Reading-inverts-writing ⌝ }
+{}

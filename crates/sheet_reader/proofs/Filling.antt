@@ -26,7 +26,7 @@ use Rattle.sheet_reader.specs.Reading.{parse, add, lines-in, reading, answer, 
 use Rattle.sheet_reader.specs.Writing.{Fit}
 use Rattle.sheet_reader.proofs.Adding.{name-comes-twice, level-is-lacking, line-is-added}
 use Rattle.sheet_reader.proofs.Lines.{line-read-is-writing}
-use Rattle.sheet_reader.proofs.Names.{Tells, tells-none, tells-push}
+use Rattle.sheet_reader.proofs.Flags.{Tells, tells-none, tells-push}
 
 all-given-push : (sheet : LevelSheet) (ls : List SheetLine) (l : SheetLine) → all-given sheet (ls ++ l ∷ []) ≡ given (all-given sheet ls) (l .name) (l .level)
 all-given-push sheet [] l = refl
@@ -48,12 +48,14 @@ pub refused : (low : ℕ) (x : Result (List SheetLine) Fault) (f g : Fault) (aft
 refused low x f g after e h = subst (λ (y : Result (List SheetLine) Fault). Filled low y (Err f) after) (sym h) (ap (λ k. Err k) e)
 
 module _ {L : Levels} {text left : List ℕ} {count : ℕ} {flags : List Bool} {sheet : LevelSheet} (s : Read-so-far L text left count flags sheet) where
+  -- the next line, read as l
   module _ (p rest : List ℕ) (b : Begins-with left p rest) where
     module _ (l : SheetLine) (h : parse (count + 1) p ≡ Ok l) where
       fits : Fit l
       fits = line-read-is-writing (count + 1) p l h .1
 
       module _ (place : ℕ) (at : place ≡ place-of (l .name)) where
+        -- the flag at the place of its name
         flag-tells : getD flags place false ≡ has-name (s .lines) (l .name)
         flag-tells = ap (λ i. getD flags i false) at ∙ s .flagged .tells (l .name) (fits .name)
 

@@ -1,5 +1,6 @@
 pub mod Adding
 pub mod Filling
+pub mod Flags
 pub mod Levels
 pub mod Lines
 pub mod Names

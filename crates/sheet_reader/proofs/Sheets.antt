@@ -28,7 +28,7 @@ use Rattle.sheet_reader.specs.Reading.{parse, add, lines-in, reading, answer, 
 use Rattle.sheet_reader.specs.Writing.{line-bytes, written, Fit, Sheet-for, Reading-inverts-writing, Accepts}
 use Rattle.sheet_reader.proofs.Adding.{all-new, built-follows, following-is-built}
 use Rattle.sheet_reader.proofs.Lines.{line-read-is-writing, writing-is-read, line-is-clean, line-is-short}
-use Rattle.sheet_reader.proofs.Names.{once-is-few}
+use Rattle.sheet_reader.proofs.Flags.{once-is-few}
 
 -- what is written of lines that fit keeps the limits on bytes
 all-clean : (ls : List SheetLine) → All Fit ls → All (λ l. is-clean (line-bytes l) ≡ true) ls

@@ -76,8 +76,9 @@ fn fill_sheet<S: Scheme>(text: &[u8], scheme: &S, sheet: &mut LevelSheet) -> Res
     if text.len() > TEXT_LIMIT {
         return Err(Fault::unplaced(Reason::Overlong));
     }
-    *sheet = LevelSheet::uniform(scheme.lowest());
+    let lowest = scheme.lowest();
     let levels = scheme.count();
+    *sheet = LevelSheet::uniform(lowest);
     let mut named = [false; NAMES];
     let mut left = text;
     let mut count: u16 = 0;

@@ -1,15 +1,15 @@
-use mathlib.Core.Path.{sym, ap, _∙_}
-use native.Mathlib.Omega.{arith}
+use mathlib.Core.Path.{_≡_}
 use borrow.Author.Needs.{needs}
-use Rattle.std.specs.declared.result.Result.the-variants.{Err}
-use Rattle.scheme_reader.proofs.OnlyLine.{one-line, more-lines}
+use Rattle.scheme_reader.specs.Reading.{told, reading}
+use Rattle.scheme_reader.proofs.Schemes.{answer-accepts}
 use Rattle.scheme_reader.proofs.read_scheme.Needs as need
 
-pub returns-then-not-is-empty : need.returns-then-not-is-empty
-returns-then-not-is-empty c =
-    ap (λ f. Err f) (c .unplaced-then-not-is-empty .ensures)
-    ∙ sym (more-lines (c .args .text .now) (omega arith) (c .in-Some .line .now) (c .in-Some .rest .now) (search needs) (sym (c .if-not-is-empty .ensures tt)))
+pub returns-in-Break-only-line : need.returns-in-Break-only-line
+returns-in-Break-only-line c =
+    let v : told (c .from-residual .result) ≡ reading (c .args .text .now) = search needs in
+    record { value = v; accepts = answer-accepts (c .args .text .now) (c .from-residual .result) v }
 
 pub returns : need.returns
 returns c =
-    c .read-line .ensures ∙ sym (one-line (c .args .text .now) (omega arith) (c .in-Some .line .now) (c .in-Some .rest .now) (search needs) (sym (c .if-not-is-empty .ensures tt)))
+    let v : told (c .read-line .result) ≡ reading (c .args .text .now) = search needs in
+    record { value = v; accepts = answer-accepts (c .args .text .now) (c .read-line .result) v }

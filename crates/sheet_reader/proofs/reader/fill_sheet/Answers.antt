@@ -6,7 +6,7 @@ use Rattle.sheet_reader.proofs.Filling.{none-read, refused, twice, no-level, o
 use Rattle.sheet_reader.proofs.reader.fill_sheet.Needs as need
 
 pub loop-line-holds : need.loop-line-holds
-loop-line-holds g c = none-read (g .S·Scheme .levels (c .args .scheme .now)) (c .args .text .now) _ (omega arith) (c .uniform .ensures ∙ ap uniform (c .lowest .ensures))
+loop-line-holds g c = none-read (g .S·Scheme .levels (c .args .scheme .now)) (c .args .text .now) _ (omega arith) (c .uniform .ensures ∙ ap uniform (c .lowest-lowest .ensures))
 
 pub returns-then-named-place : need.returns-then-named-place
 returns-then-named-place g c =
