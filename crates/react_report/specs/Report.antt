@@ -1,4 +1,4 @@
--- What is printed of an input that is a switch sheet, a line `-`, and in-tickets. Assumes nothing.
+-- What is printed of an input that is a machine's text, a line `-`, and in-tickets. Assumes nothing.
 use mathlib.Core.Bool.{true, cond}
 use mathlib.Core.List.{List}
 use Prim.Native.Nat.{ℕ, _%_}
@@ -27,14 +27,17 @@ allowance = 1000
 abbrev pub fed-lines : Meaning → List ℕ → List ℕ
 fed-lines means bytes = cond (eqb (length bytes % 8) 0) (reaction-lines means allowance bytes) (fault-line 2 (unplaced reason.Record))
 
-abbrev pub sheet-lines : Result (List SwitchLine) Fault → List ℕ → List ℕ
-sheet-lines (Ok ls) bytes = fed-lines (switched (padded 64 (Ok ls))) bytes
-sheet-lines (Err f) bytes = fault-line 1 f
+abbrev pub switch-lines : Result (List SwitchLine) Fault → List ℕ → List ℕ
+switch-lines (Ok ls) bytes = fed-lines (switched (padded 64 (Ok ls))) bytes
+switch-lines (Err f) bytes = fault-line 1 f
+
+abbrev pub switch-report : List ℕ → List ℕ → List ℕ
+switch-report text bytes = switch-lines (reading text) bytes
 
 -- an input without the line `-` is refused as a whole
 abbrev pub part-lines : List ℕ → Option (List ℕ) → List ℕ
-part-lines sheet None = fault-line 0 (unplaced reason.Field)
-part-lines sheet (Some bytes) = sheet-lines (reading sheet) bytes
+part-lines text None = fault-line 0 (unplaced reason.Field)
+part-lines text (Some bytes) = switch-report text bytes
 
 abbrev pub report : List ℕ → List ℕ
 report input = part-lines (before-mark true input) (after-mark true input)

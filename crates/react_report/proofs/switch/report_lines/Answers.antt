@@ -7,10 +7,10 @@ use Rattle.fault.specs.declared.Fault.{Fault}
 use Rattle.switch.specs.declared.line.SwitchLine.{SwitchLine}
 use Rattle.switch_machine.specs.Loading.{Holds}
 use Rattle.switch_machine.specs.Switching.{switched}
-use Rattle.switch_report.specs.Report.{fed-lines}
-use Rattle.switch_report.proofs.report_lines.Needs as need
+use Rattle.react_report.specs.Report.{fed-lines}
+use Rattle.react_report.proofs.switch.report_lines.Needs as need
 
 pub returns : need.returns
 returns c =
     let held = subst (λ (r : Result (Unit {0}) Fault). Holds r (c .args .lines .now) (c .empty-machine .result) (c .load .last .self)) (c .load .ensures .value ∙ c .pre) (c .load .ensures .machine) in
-    subst (λ (lines : List SwitchLine). Appends (c .args .out .now) (fed-lines (switched lines) (c .args .bytes .now)) (c .report-reactions .result) (c .report-reactions .last .out)) held (c .report-reactions .ensures)
+    subst (λ (lines : List SwitchLine). Appends (c .args .out .now) (fed-lines (switched lines) (c .args .bytes .now)) (c .feed .result) (c .feed .last .out)) held (c .feed .ensures)
