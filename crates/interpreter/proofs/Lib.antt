@@ -1,0 +1,11 @@
+pub mod Expressing
+pub mod Flat
+pub mod Frames
+pub mod Keeping
+pub mod Moves
+pub mod Nests
+pub mod Openings
+pub mod Outputs
+pub mod Reactions
+pub mod Steps
+pub mod Terms

@@ -1,0 +1,17 @@
+pub mod Adding
+pub mod Cases
+pub mod Channels
+pub mod Collecting
+pub mod Expressions
+pub mod Filling
+pub mod Flattening
+pub mod Lines
+pub mod Nested
+pub mod Ordering
+pub mod Programs
+pub mod Putting
+pub mod Runs
+pub mod Scanning
+pub mod Spelling
+pub mod Stacks
+pub mod Tables

@@ -1,0 +1,10 @@
+pub mod Calls
+pub mod Clashes
+pub mod Laws
+pub mod Lists
+pub mod Promises
+pub mod Replies
+pub mod Runs
+pub mod Setting
+pub mod States
+pub mod Verdicts
