@@ -1,11 +1,13 @@
 // The report on a machine that is fed in-tickets.
 ghost use mathlib.Core.Path.{_≡_};
 ghost use Rattle.print.specs.Appending.{Appends};
-ghost use Rattle.react_report.specs.Report.{report};
+ghost use Rattle.react_report.specs.Report.{is-switch-sheet, report};
 
 mod feed;
+mod program;
 mod switch;
 
+use crate::program::report_program;
 use crate::switch::report_switch;
 use fault::Fault;
 use fault::Reason;
@@ -21,5 +23,15 @@ pub fn report_react(out: &mut Vec<u8>, input: &[u8]) -> Result<(), AllocError>
     let Some(bytes) = rest else {
         return put_fault(out, 0, Fault::unplaced(Reason::Field));
     };
-    report_switch(out, text, bytes)
+    if is_switch_sheet(text) {
+        report_switch(out, text, bytes)
+    } else {
+        report_program(out, text, bytes)
+    }
+}
+
+fn is_switch_sheet(text: &[u8]) -> bool
+    ensures { λ r. ⌜ r ≡ is-switch-sheet (now (text .entry)) ⌝ }
+{
+    !text.is_empty() && text[0] == b'T'
 }
