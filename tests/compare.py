@@ -14,7 +14,7 @@ ROOT = pathlib.Path(__file__).resolve().parent.parent
 # program: how its inputs are made, and what it should print of one
 PROGRAMS = {
     "tickets": (generate.tickets_input, reports.report_tickets),
-    "react": (generate.switch_input, reports.report_react),
+    "react": (generate.react_input, reports.report_react),
 }
 
 

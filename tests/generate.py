@@ -115,12 +115,6 @@ def perhaps_damaged(random, text):
     return damaged(random, text) if random.random() < 0.2 else text
 
 
-def switch_input(seed):
-    """A whole input of the program `react`: a switch sheet and tickets."""
-    r = random.Random(seed)
-    return perhaps_damaged(r, switch_sheet(r)) + b"-\n" + tickets(r)
-
-
 def react_input(seed):
     """A whole input of the program `react`: a switch sheet or a site program, and tickets."""
     r = random.Random(seed)

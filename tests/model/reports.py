@@ -1,6 +1,6 @@
 """What the programs print, from their input's bytes."""
 from .levels import join, lowest, read_scheme, read_sheet
-from .machines import read_switch
+from .machines import read_program, read_switch
 from .texts import CHANNEL, FIELD, RECORD, Fault
 
 
@@ -81,10 +81,11 @@ def report_reactions(machine, batch):
     return "".join(out)
 
 
-def report_react(data, read=read_switch):
+def report_react(data):
     text, batch = parts(data)
     if batch is None:
         return refusal(0, Fault(FIELD))
+    read = read_switch if text.startswith(b"T") else read_program
     try:
         machine = read(text)
     except Fault as fault:
