@@ -3,7 +3,7 @@ use mathlib.Core.Bool.{true, false}
 use mathlib.Core.List.{List, [], _∷_, _++_, append-assoc}
 use mathlib.Core.Logic.{inl, inr}
 use mathlib.Core.Path.{_≡_, refl, ap, sym, subst, _∙_}
-use Prim.Native.Nat.{ℕ, zero, suc, _+_, _-_, _≤_, _<_}
+use Prim.Native.Nat.{ℕ, zero, suc, _+_, _-_, _<_}
 use native.Mathlib.Nat.{zero-add}
 use native.Mathlib.Omega.{arith}
 use lib.ListN.{length, getD, drop, length-drop}
@@ -17,10 +17,10 @@ use Rattle.program.specs.declared.rows.Term.{Term}
 use Rattle.program.specs.Building.{blank-row}
 use Rattle.program.specs.Lines.{Line}
 use Rattle.program.specs.Trees.{whole, around}
-use Rattle.program.specs.Writing.{terms-of, close-line, block-lines, lines-of, all-terms, row, width, block-rows, tree-rows, flat-rows, flat-terms, Fit-block, Fit-handler}
+use Rattle.program.specs.Writing.{terms-of, else-line, close-line, block-lines, lines-of, all-terms, row, width, block-rows, tree-rows, flat-rows, flat-terms, Fit-block, Fit-handler}
 use Rattle.interpreter.specs.Laws.{Flat-is-sound}
 use Rattle.interpreter.specs.Places.{frames-at, second-of}
-use Rattle.interpreter.specs.Sound.{Closes, Closes-alone, Parts, Sound-row}
+use Rattle.interpreter.specs.Sound.{Closes, Parts, Sound-row}
 use Rattle.interpreter.proofs.Expressing.{expressed}
 use Rattle.interpreter.proofs.Nests.{behind-parts, opened, part-frames, parts-frames, block-prefixes, tree-frames}
 
@@ -45,6 +45,9 @@ all-terms-append (l ∷ ls) ms = ap (λ ts. l .1 ++ ts) (all-terms-append ls ms)
 over-gap : (ls ms : List Line) (k : Kind) (ts : List Term) → all-terms (ls ++ (k, []) ∷ ms) ++ ts ≡ all-terms ls ++ (all-terms ms ++ ts)
 over-gap ls ms k ts = ap (λ w. w ++ ts) (all-terms-append ls ((k, []) ∷ ms)) ∙ append-assoc (all-terms ls) (all-terms ms) ts
 
+over-part : (xs : List Term) (ls ms : List Line) (ts : List Term) → (xs ++ all-terms (ls ++ close-line ∷ ms)) ++ ts ≡ xs ++ (all-terms ls ++ (all-terms ms ++ ts))
+over-part xs ls ms ts = append-assoc xs (all-terms (ls ++ close-line ∷ ms)) ts ∙ ap (λ w. xs ++ w) (over-gap ls ms kind.Close ts)
+
 module _ (rows : List Row) (terms : List Term) where
   -- each of the rows from row j on is sound
   abbrev Each : ℕ → List Row → Type 0
@@ -64,33 +67,57 @@ module _ (rows : List Row) (terms : List Term) where
       let e : j + 1 + i ≡ j + suc i = omega arith in
       subst (λ (n : ℕ). Sound-row rows terms n (getD rs i blank-row) (getD rs i blank-row .kind)) e (each-at (j + 1) rs i (omega arith) (a .1))
 
-  closes : (i p u : ℕ) (b : Block) (rs : List Row) → i < p → drop p rows ≡ row kind.Close u 0 0 ∷ rs → frames-at rows terms (i + 1) ≡ whole b ∷ opened terms rs → Closes rows terms i p
-  closes i p u b rs lt e f =
+  -- a part p behind row j, with u terms before it: its Close ends it, and the rest and more terms follow
+  record Encloses (j u : ℕ) (p : Block) (rest : List Row) (more : List Term) : Type 0 where
+    pub body : drop (j + 1) rows ≡ block-rows (j + 1) u p ++ row kind.Close (u + width p) 0 0 ∷ rest
+    pub behind : drop (j + 1 + length (block-rows (j + 1) u p) + 1) rows ≡ rest
+    pub terms-behind : drop (u + width p) terms ≡ more
+    pub inner : Block
+    pub opens : frames-at rows terms (j + 1) ≡ whole inner ∷ opened terms rest
+    pub closes : Closes rows terms j (j + 1 + length (block-rows (j + 1) u p))
+
+  encloses : (j u : ℕ) (p : Block) (x : Row) (rest : List Row) (more : List Term) → drop j rows ≡ x ∷ (block-rows (j + 1) u p ++ row kind.Close (u + width p) 0 0 ∷ rest) → drop u terms ≡ all-terms (block-lines p) ++ more → Encloses j u p rest more
+  encloses j u p x rest more r t =
+      let body = block-rows (j + 1) u p in
+      let close = row kind.Close (u + width p) 0 0 in
+      let end = j + 1 + length body in
+      let r₁ = drop-next rows j x (body ++ close ∷ rest) r in
+      let r₂ = drop-past rows (j + 1) body (close ∷ rest) r₁ in
+      let r₃ = drop-next rows end close rest r₂ in
+      let y = part-frames terms body rest (u + width p) (block-prefixes terms (j + 1) u p (close ∷ rest)) in
+      let f = ap (opened terms) r₁ ∙ y .1 in
       record {
-        after = lt;
-        within = place-within rows p (row kind.Close u 0 0) rs e;
-        is-close = ap (λ (r : Row). r .kind) (item-at rows p blank-row (row kind.Close u 0 0) rs e);
-        goes-on = ap (opened terms) (drop-next rows p (row kind.Close u 0 0) rs e) ∙ sym (ap around f);
+        body = r₁;
+        behind = r₃;
+        terms-behind = drop-past terms u (all-terms (block-lines p)) more t;
+        inner = y .0;
+        opens = f;
+        closes =
+            record {
+              after = omega arith;
+              within = place-within rows end close rest r₂;
+              is-close = ap (λ (c : Row). c .kind) (item-at rows end blank-row close rest r₂);
+              goes-on = ap (opened terms) r₃ ∙ sym (ap around f);
+            };
       }
 
+  -- a block's rows from row j on, before rs, with the terms of its lines from u on, before ts
   sound-block : (j u d : ℕ) (b : Block) (rs : List Row) (ts : List Term) → drop j rows ≡ block-rows j u b ++ rs → drop u terms ≡ all-terms (block-lines b) ++ ts → Fit-block d b → Each j (block-rows j u b)
   sound-block j u d done rs ts r t h = tt
   sound-block j u d (skip k) rs ts r t h = (tt, sound-block (j + 1) u d k rs ts (drop-next rows j (row kind.Skip u 0 0) (block-rows (j + 1) u k ++ rs) r) t h)
   sound-block j u d (assign v e k) rs ts r t h =
-      let c = row (kind.Assign v) u (length (terms-of e)) 0 in
       let u₁ = u + length (terms-of e) in
       let ts₁ = all-terms (block-lines k) ++ ts in
-      let t₀ : drop u terms ≡ terms-of e ++ ts₁ = t ∙ append-assoc (terms-of e) (all-terms (block-lines k)) ts in (
+      let t₀ = t ∙ append-assoc (terms-of e) (all-terms (block-lines k)) ts in (
         (omega (arith, h .0), expressed terms u e (kind.Assign v) 0 ts₁ t₀ (h .1 .0)),
-        sound-block (j + 1) u₁ d k rs ts (drop-next rows j c (block-rows (j + 1) u₁ k ++ rs) r) (drop-past terms u (terms-of e) ts₁ t₀) (h .2),
+        sound-block (j + 1) u₁ d k rs ts (drop-next rows j (row (kind.Assign v) u (length (terms-of e)) 0) (block-rows (j + 1) u₁ k ++ rs) r) (drop-past terms u (terms-of e) ts₁ t₀) (h .2),
       )
-  sound-block j u d (output v e k) rs ts r t h =
-      let c = row (kind.Output v) u (length (terms-of e)) 0 in
+  sound-block j u d (output c e k) rs ts r t h =
       let u₁ = u + length (terms-of e) in
       let ts₁ = all-terms (block-lines k) ++ ts in
-      let t₀ : drop u terms ≡ terms-of e ++ ts₁ = t ∙ append-assoc (terms-of e) (all-terms (block-lines k)) ts in (
-        (h .0, omega (arith, h .1), expressed terms u e (kind.Output v) 0 ts₁ t₀ (h .2 .0)),
-        sound-block (j + 1) u₁ d k rs ts (drop-next rows j c (block-rows (j + 1) u₁ k ++ rs) r) (drop-past terms u (terms-of e) ts₁ t₀) (h .3),
+      let t₀ = t ∙ append-assoc (terms-of e) (all-terms (block-lines k)) ts in (
+        (h .0, omega (arith, h .1), expressed terms u e (kind.Output c) 0 ts₁ t₀ (h .2 .0)),
+        sound-block (j + 1) u₁ d k rs ts (drop-next rows j (row (kind.Output c) u (length (terms-of e)) 0) (block-rows (j + 1) u₁ k ++ rs) r) (drop-past terms u (terms-of e) ts₁ t₀) (h .3),
       )
   sound-block j u d (branch true e p q k) rs ts r t h =
       let u₁ = u + length (terms-of e) in
@@ -101,108 +128,81 @@ module _ (rows : List Row) (terms : List Term) where
       let second = block-rows (middle + 1) u₂ q in
       let end = middle + 1 + length second in
       let rest = block-rows (end + 1) u₃ k in
-      let close = row kind.Close u₃ 0 0 in
       let else = row kind.Else u₂ 0 end in
-      let behind = second ++ close ∷ (rest ++ rs) in
-      let r₁ : drop (j + 1) rows ≡ first ++ else ∷ behind = drop-next rows j (row kind.If u (length (terms-of e)) middle) ((first ++ else ∷ (second ++ close ∷ rest)) ++ rs) r ∙ behind-parts first second rest rs else close in
-      let r₂ : drop middle rows ≡ else ∷ behind = drop-past rows (j + 1) first (else ∷ behind) r₁ in
-      let r₃ : drop (middle + 1) rows ≡ behind = drop-next rows middle else behind r₂ in
-      let r₄ : drop end rows ≡ close ∷ (rest ++ rs) = drop-past rows (middle + 1) second (close ∷ (rest ++ rs)) r₃ in
-      let r₅ : drop (end + 1) rows ≡ rest ++ rs = drop-next rows end close (rest ++ rs) r₄ in
+      let close = row kind.Close u₃ 0 0 in
+      let part = second ++ close ∷ (rest ++ rs) in
       let ts₃ = all-terms (block-lines k) ++ ts in
       let ts₂ = all-terms (block-lines q) ++ ts₃ in
       let ts₁ = all-terms (block-lines p) ++ ts₂ in
       let t₀ : drop u terms ≡ terms-of e ++ ts₁ =
       t
-      ∙ append-assoc (terms-of e) (all-terms (block-lines p ++ (kind.Else, []) ∷ (block-lines q ++ close-line ∷ block-lines k))) ts
+      ∙ append-assoc (terms-of e) (all-terms (block-lines p ++ else-line ∷ (block-lines q ++ close-line ∷ block-lines k))) ts
       ∙ ap (λ w. terms-of e ++ w) (over-gap (block-lines p) (block-lines q ++ close-line ∷ block-lines k) kind.Else ts ∙ ap (λ w. all-terms (block-lines p) ++ w) (over-gap (block-lines q) (block-lines k) kind.Close ts))
       in
       let t₁ = drop-past terms u (terms-of e) ts₁ t₀ in
       let t₂ = drop-past terms u₁ (all-terms (block-lines p)) ts₂ t₁ in
-      let t₃ = drop-past terms u₂ (all-terms (block-lines q)) ts₃ t₂ in
-      let y = part-frames terms second (rest ++ rs) u₃ (block-prefixes terms (middle + 1) u₂ q (close ∷ (rest ++ rs))) in
-      let x = parts-frames terms first second (rest ++ rs) u₂ u₃ end (y .0) (block-prefixes terms (j + 1) u₁ p (else ∷ behind)) (y .1) in
-      let f = ap (opened terms) r₁ ∙ x .1 in
-      let g = ap (opened terms) r₃ ∙ y .1 in
-      let parts : Parts rows terms j middle end =
-      record {
-        after = omega arith;
-        is-else = ap (λ (r : Row). r .kind) (item-at rows middle blank-row else behind r₂);
-        second = rw f g;
-        closes = closes middle end u₃ (y .0) (rest ++ rs) (omega arith) r₄ g;
-      }
+      let r₁ : drop (j + 1) rows ≡ first ++ else ∷ part =
+      drop-next rows j (row kind.If u (length (terms-of e)) middle) ((first ++ else ∷ (second ++ close ∷ rest)) ++ rs) r ∙ behind-parts first second rest rs else close
       in
-      let q-is : end ≡ getD rows middle blank-row .partner = ap (λ (r : Row). r .partner) (sym (item-at rows middle blank-row else behind r₂)) in (
-        (expressed terms u e kind.If middle ts₁ t₀ (h .1 .0), inr (subst (λ (n : ℕ). Parts rows terms j middle n) q-is parts)),
-        each-append (j + 1) first (else ∷ (second ++ close ∷ rest)) (sound-block (j + 1) u₁ (d - 1) p (else ∷ behind) ts₂ r₁ t₁ (h .2)) (
+      let r₂ = drop-past rows (j + 1) first (else ∷ part) r₁ in
+      let y = encloses middle u₂ q else (rest ++ rs) ts₃ r₂ t₂ in
+      let x = parts-frames terms first second (rest ++ rs) u₂ u₃ end (y .inner) (block-prefixes terms (j + 1) u₁ p (else ∷ part)) (sym (ap (opened terms) (y .body)) ∙ y .opens) in
+      let f = ap (opened terms) r₁ ∙ x .1 in
+      let at-middle = item-at rows middle blank-row else part r₂ in
+      let parts : Parts rows terms j middle end = record { after = omega arith; is-else = ap (λ (c : Row). c .kind) at-middle; second = rw f (y .opens); closes = y .closes } in (
+        (expressed terms u e kind.If middle ts₁ t₀ (h .1 .0), inr (subst (λ (n : ℕ). Parts rows terms j middle n) (ap (λ (c : Row). c .partner) (sym at-middle)) parts)),
+        each-append (j + 1) first (else ∷ (second ++ close ∷ rest)) (sound-block (j + 1) u₁ (d - 1) p (else ∷ part) ts₂ r₁ t₁ (h .2)) (
           tt,
-          each-append (middle + 1) second (close ∷ rest) (sound-block (middle + 1) u₂ (d - 1) q (close ∷ (rest ++ rs)) ts₃ r₃ t₂ (h .3))
-              (tt, sound-block (end + 1) u₃ d k rs ts r₅ t₃ (h .5)),
+          each-append (middle + 1) second (close ∷ rest) (sound-block (middle + 1) u₂ (d - 1) q (close ∷ (rest ++ rs)) ts₃ (y .body) t₂ (h .3))
+              (tt, sound-block (end + 1) u₃ d k rs ts (y .behind) (y .terms-behind) (h .5)),
         ),
       )
   sound-block j u d (branch false e p q k) rs ts r t h =
       let u₁ = u + length (terms-of e) in
-      let u₂ = u₁ + width p in
       let first = block-rows (j + 1) u₁ p in
       let end = j + 1 + length first in
-      let rest = block-rows (end + 1) u₂ k in
-      let close = row kind.Close u₂ 0 0 in
-      let r₁ : drop (j + 1) rows ≡ first ++ close ∷ (rest ++ rs) = drop-next rows j (row kind.If u (length (terms-of e)) end) ((first ++ close ∷ rest) ++ rs) r ∙ append-assoc first (close ∷ rest) rs in
-      let r₂ : drop end rows ≡ close ∷ (rest ++ rs) = drop-past rows (j + 1) first (close ∷ (rest ++ rs)) r₁ in
-      let r₃ : drop (end + 1) rows ≡ rest ++ rs = drop-next rows end close (rest ++ rs) r₂ in
+      let rest = block-rows (end + 1) (u₁ + width p) k in
+      let close = row kind.Close (u₁ + width p) 0 0 in
+      let if = row kind.If u (length (terms-of e)) end in
       let ts₂ = all-terms (block-lines k) ++ ts in
       let ts₁ = all-terms (block-lines p) ++ ts₂ in
-      let t₀ : drop u terms ≡ terms-of e ++ ts₁ =
-      t ∙ append-assoc (terms-of e) (all-terms (block-lines p ++ close-line ∷ block-lines k)) ts ∙ ap (λ w. terms-of e ++ w) (over-gap (block-lines p) (block-lines k) kind.Close ts)
-      in
+      let t₀ = t ∙ over-part (terms-of e) (block-lines p) (block-lines k) ts in
       let t₁ = drop-past terms u (terms-of e) ts₁ t₀ in
-      let t₂ = drop-past terms u₁ (all-terms (block-lines p)) ts₂ t₁ in
-      let x = part-frames terms first (rest ++ rs) u₂ (block-prefixes terms (j + 1) u₁ p (close ∷ (rest ++ rs))) in
-      let f = ap (opened terms) r₁ ∙ x .1 in
-      let alone : Closes-alone rows terms j end = record { closes = closes j end u₂ (x .0) (rest ++ rs) (omega arith) r₂ f; alone = ap second-of f } in (
-        (expressed terms u e kind.If end ts₁ t₀ (h .1 .0), inl alone),
-        each-append (j + 1) first (close ∷ rest) (sound-block (j + 1) u₁ (d - 1) p (close ∷ (rest ++ rs)) ts₂ r₁ t₁ (h .2)) (tt, sound-block (end + 1) u₂ d k rs ts r₃ t₂ (h .5)),
+      let x = encloses j u₁ p if (rest ++ rs) ts₂ (r ∙ ap (λ w. if ∷ w) (append-assoc first (close ∷ rest) rs)) t₁ in (
+        (expressed terms u e kind.If end ts₁ t₀ (h .1 .0), inl (record { closes = x .closes; alone = ap second-of (x .opens) })),
+        each-append (j + 1) first (close ∷ rest) (sound-block (j + 1) u₁ (d - 1) p (close ∷ (rest ++ rs)) ts₂ (x .body) t₁ (h .2))
+            (tt, sound-block (end + 1) (u₁ + width p) d k rs ts (x .behind) (x .terms-behind) (h .5)),
       )
   sound-block j u d (repeat e p k) rs ts r t h =
       let u₁ = u + length (terms-of e) in
-      let u₂ = u₁ + width p in
       let body = block-rows (j + 1) u₁ p in
       let end = j + 1 + length body in
-      let rest = block-rows (end + 1) u₂ k in
-      let close = row kind.Close u₂ 0 0 in
-      let r₁ : drop (j + 1) rows ≡ body ++ close ∷ (rest ++ rs) = drop-next rows j (row kind.While u (length (terms-of e)) end) ((body ++ close ∷ rest) ++ rs) r ∙ append-assoc body (close ∷ rest) rs in
-      let r₂ : drop end rows ≡ close ∷ (rest ++ rs) = drop-past rows (j + 1) body (close ∷ (rest ++ rs)) r₁ in
-      let r₃ : drop (end + 1) rows ≡ rest ++ rs = drop-next rows end close (rest ++ rs) r₂ in
+      let rest = block-rows (end + 1) (u₁ + width p) k in
+      let close = row kind.Close (u₁ + width p) 0 0 in
+      let while = row kind.While u (length (terms-of e)) end in
       let ts₂ = all-terms (block-lines k) ++ ts in
       let ts₁ = all-terms (block-lines p) ++ ts₂ in
-      let t₀ : drop u terms ≡ terms-of e ++ ts₁ =
-      t ∙ append-assoc (terms-of e) (all-terms (block-lines p ++ close-line ∷ block-lines k)) ts ∙ ap (λ w. terms-of e ++ w) (over-gap (block-lines p) (block-lines k) kind.Close ts)
-      in
+      let t₀ = t ∙ over-part (terms-of e) (block-lines p) (block-lines k) ts in
       let t₁ = drop-past terms u (terms-of e) ts₁ t₀ in
-      let t₂ = drop-past terms u₁ (all-terms (block-lines p)) ts₂ t₁ in
-      let x = part-frames terms body (rest ++ rs) u₂ (block-prefixes terms (j + 1) u₁ p (close ∷ (rest ++ rs))) in (
-        (expressed terms u e kind.While end ts₁ t₀ (h .1 .0), closes j end u₂ (x .0) (rest ++ rs) (omega arith) r₂ (ap (opened terms) r₁ ∙ x .1)),
-        each-append (j + 1) body (close ∷ rest) (sound-block (j + 1) u₁ (d - 1) p (close ∷ (rest ++ rs)) ts₂ r₁ t₁ (h .2)) (tt, sound-block (end + 1) u₂ d k rs ts r₃ t₂ (h .3)),
+      let x = encloses j u₁ p while (rest ++ rs) ts₂ (r ∙ ap (λ w. while ∷ w) (append-assoc body (close ∷ rest) rs)) t₁ in (
+        (expressed terms u e kind.While end ts₁ t₀ (h .1 .0), x .closes),
+        each-append (j + 1) body (close ∷ rest) (sound-block (j + 1) u₁ (d - 1) p (close ∷ (rest ++ rs)) ts₂ (x .body) t₁ (h .2))
+            (tt, sound-block (end + 1) (u₁ + width p) d k rs ts (x .behind) (x .terms-behind) (h .3)),
       )
 
   sound-tree : (j u : ℕ) (p : Tree) → drop j rows ≡ tree-rows j u p → drop u terms ≡ all-terms (lines-of p) → All Fit-handler p → Each j (tree-rows j u p)
   sound-tree j u [] r t h = tt
   sound-tree j u (g ∷ gs) r t h =
-      let b = g .body in
-      let u₁ = u + width b in
-      let body = block-rows (j + 1) u b in
+      let u₁ = u + width (g .body) in
+      let body = block-rows (j + 1) u (g .body) in
       let end = j + 1 + length body in
       let rest = tree-rows (end + 1) u₁ gs in
       let close = row kind.Close u₁ 0 0 in
-      let r₁ : drop (j + 1) rows ≡ body ++ close ∷ rest = drop-next rows j (row (kind.Handler (g .channel)) u 0 end) (body ++ close ∷ rest) r in
-      let r₂ : drop end rows ≡ close ∷ rest = drop-past rows (j + 1) body (close ∷ rest) r₁ in
-      let r₃ : drop (end + 1) rows ≡ rest = drop-next rows end close rest r₂ in
-      let t₀ : drop u terms ≡ all-terms (block-lines b) ++ all-terms (lines-of gs) = t ∙ all-terms-append (block-lines b) (close-line ∷ lines-of gs) in
-      let x = part-frames terms body rest u₁ (block-prefixes terms (j + 1) u b (close ∷ rest)) in
-      let f = ap (opened terms) r₁ ∙ x .1 in (
-        (ap length (f ∙ ap (λ fs. whole (x .0) ∷ fs) (tree-frames terms (end + 1) u₁ gs)), closes j end u₁ (x .0) rest (omega arith) r₂ f),
-        each-append (j + 1) body (close ∷ rest) (sound-block (j + 1) u 8 b (close ∷ rest) (all-terms (lines-of gs)) r₁ t₀ (h .0 .1))
-            (tt, sound-tree (end + 1) u₁ gs r₃ (drop-past terms u (all-terms (block-lines b)) (all-terms (lines-of gs)) t₀) (h .1)),
+      let ts = all-terms (lines-of gs) in
+      let t₀ = t ∙ all-terms-append (block-lines (g .body)) (close-line ∷ lines-of gs) in
+      let x = encloses j u (g .body) (row (kind.Handler (g .channel)) u 0 end) rest ts r t₀ in (
+        (ap length (x .opens ∙ ap (λ fs. whole (x .inner) ∷ fs) (tree-frames terms (end + 1) u₁ gs)), x .closes),
+        each-append (j + 1) body (close ∷ rest) (sound-block (j + 1) u 8 (g .body) (close ∷ rest) ts (x .body) t₀ (h .0 .1)) (tt, sound-tree (end + 1) u₁ gs (x .behind) (x .terms-behind) (h .1)),
       )
 
 pub flat-is-sound : Flat-is-sound

@@ -1,11 +1,11 @@
 -- What a row adds to the frames behind it, in sound tables. Assumes nothing.
 use mathlib.Core.List.{List, [], _∷_}
 use mathlib.Core.Logic.{_⊎_, inl, inr}
-use mathlib.Core.Path.{_≡_, refl, ap, sym, subst, _∙_}
+use mathlib.Core.Path.{_≡_, refl, ap, sym, _∙_}
 use Prim.Native.Nat.{ℕ, _+_, _<_, _≤_}
 use native.Mathlib.Decide.{decLt}
 use native.Mathlib.Omega.{arith}
-use lib.ListN.{length, getD, drop}
+use lib.ListN.{length, getD}
 use Rattle.std.proofs.shelf.Lists.{at-drop-more, at-drop-all}
 use Rattle.language.specs.Block.{Block, done, skip, assign, output, branch, repeat, _⨟_}
 use Rattle.language.specs.Expression.{Expr}
@@ -15,8 +15,8 @@ use Rattle.program.specs.declared.rows.Row.{Row}
 use Rattle.program.specs.declared.rows.Term.{Term}
 use Rattle.program.specs.Building.{blank-row, lines-from}
 use Rattle.program.specs.Trees.{Frame, whole, parted, prefixed, halved, branched, repeated, around, framed, frames, here}
-use Rattle.interpreter.specs.Places.{expression-at, frames-at, second-of, is-parted, command, past, next}
-use Rattle.interpreter.specs.Sound.{Expressed, Closes, Closes-alone, Parts, Sound-row, Sound}
+use Rattle.interpreter.specs.Places.{expression-at, frames-at, second-of, is-parted, command, past, next, next-at, block-at, row-at}
+use Rattle.interpreter.specs.Sound.{Closes-alone, Parts, Sound-row, Sound}
 
 prefixed-here : (f : Block → Block) (fs : List Frame) → 0 < length (prefixed f fs) → (0 < length fs) × (here (prefixed f fs) ≡ f (here fs))
 prefixed-here f [] h = absurd (omega arith)
@@ -85,12 +85,11 @@ module _ (rows : List Row) (terms : List Term) where
   goes-past i p (inr w) =
       ap (λ c. frames-at rows terms (past c p (getD rows p blank-row .partner))) (w .is-else) ∙ w .closes .goes-on ∙ ap around (w .second)
 
-  -- a row that ends no block is its command, and then the block goes on behind it
-  pub record Goes (i : ℕ) (r : Row) (c : Kind) : Type 0 where
+  record Goes-by (i : ℕ) (r : Row) (c : Kind) : Type 0 where
     pub inside : 0 < length (frames-at rows terms (next rows c i (r .partner)))
     pub is : here (frames-at rows terms i) ≡ command c (expression-at terms r) (frames-at rows terms (i + 1)) (here (frames-at rows terms (next rows c i (r .partner))))
 
-  by-kind : (i : ℕ) (r : Row) (c : Kind) → frames-at rows terms i ≡ framed c (expression-at terms r) (frames-at rows terms (i + 1)) → 0 < length (frames-at rows terms i) → Sound-row rows terms i r c → (c ≡ kind.Else → ⊥) → (c ≡ kind.Close → ⊥) → Goes i r c
+  by-kind : (i : ℕ) (r : Row) (c : Kind) → frames-at rows terms i ≡ framed c (expression-at terms r) (frames-at rows terms (i + 1)) → 0 < length (frames-at rows terms i) → Sound-row rows terms i r c → (c ≡ kind.Else → ⊥) → (c ≡ kind.Close → ⊥) → Goes-by i r c
   by-kind i r kind.Skip e h f n m = let a = prefixed-here skip (frames-at rows terms (i + 1)) (rw e at h) in record { inside = a .0; is = ap here e ∙ a .1 }
   by-kind i r (kind.Handler c) e h f n m = absurd (no-handler (frames-at rows terms (i + 1)) (f .0) (rw e at h))
   by-kind i r (kind.Assign v) e h f n m = let a = prefixed-here (assign v (expression-at terms r)) (frames-at rows terms (i + 1)) (rw e at h) in record { inside = a .0; is = ap here e ∙ a .1 }
@@ -108,13 +107,16 @@ module _ (rows : List Row) (terms : List Term) where
   by-kind i r kind.Else e h f n m = absurd (n refl)
   by-kind i r kind.Close e h f n m = absurd (m refl)
 
-  pub goes : (i : ℕ) → Sound rows terms → i < length rows → 0 < length (frames-at rows terms i) → (getD rows i blank-row .kind ≡ kind.Else → ⊥) → (getD rows i blank-row .kind ≡ kind.Close → ⊥) → Goes i (getD rows i blank-row) (getD rows i blank-row .kind)
-  goes i sound lt h n m = by-kind i (getD rows i blank-row) (getD rows i blank-row .kind) (at-row i lt) h (sound i lt) n m
+  -- a row that ends no block is its command, and then the block goes on behind it
+  pub record Goes (i : ℕ) : Type 0 where
+    pub inside : 0 < length (frames-at rows terms (next-at rows i))
+    pub is : (k : Block) → block-at rows terms i k ≡ row-at rows terms i (block-at rows terms (next-at rows i) k)
 
-  pub goes-then : (i : ℕ) (r : Row) (c : Kind) → Goes i r c → (k : Block) → here (frames-at rows terms i) ⨟ k ≡ command c (expression-at terms r) (frames-at rows terms (i + 1)) (here (frames-at rows terms (next rows c i (r .partner))) ⨟ k)
-  goes-then i r c g k =
-      ap (λ b. b ⨟ k) (g .is)
-      ∙ command-then c (expression-at terms r) (frames-at rows terms (i + 1)) (here (frames-at rows terms (next rows c i (r .partner)))) k
+  pub goes : (i : ℕ) → Sound rows terms → i < length rows → 0 < length (frames-at rows terms i) → (getD rows i blank-row .kind ≡ kind.Else → ⊥) → (getD rows i blank-row .kind ≡ kind.Close → ⊥) → Goes i
+  goes i sound lt h n m =
+      let r = getD rows i blank-row in
+      let g = by-kind i r (r .kind) (at-row i lt) h (sound i lt) n m in
+      record { inside = g .inside; is = λ k. ap (λ b. b ⨟ k) (g .is) ∙ command-then (r .kind) (expression-at terms r) (frames-at rows terms (i + 1)) (here (frames-at rows terms (next-at rows i))) k }
 
   -- a row that opens a block
   pub opens-if : (i : ℕ) → i < length rows → getD rows i blank-row .kind ≡ kind.If → 0 < length (frames-at rows terms i) → 0 < length (frames-at rows terms (i + 1))

@@ -1,3 +1,4 @@
+pub mod Chains
 pub mod Expressing
 pub mod Flat
 pub mod Frames
@@ -7,5 +8,6 @@ pub mod Nests
 pub mod Openings
 pub mod Outputs
 pub mod Reactions
+pub mod Running
 pub mod Steps
 pub mod Terms

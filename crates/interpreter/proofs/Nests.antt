@@ -1,11 +1,10 @@
 -- The frames of the rows of a block, whatever the rows behind it. Assumes nothing.
 use mathlib.Core.Bool.{true, false}
 use mathlib.Core.List.{List, [], _∷_, _++_, append-assoc}
-use mathlib.Core.Path.{_≡_, refl, ap, sym, _∙_}
+use mathlib.Core.Path.{_≡_, refl, ap, _∙_}
 use Prim.Native.Nat.{ℕ, _+_}
 use lib.ListN.{length}
 use Rattle.language.specs.Block.{Block, done, skip, assign, output, branch, repeat, Tree}
-use Rattle.language.specs.Expression.{Expr}
 use Rattle.program.specs.declared.rows.Kind.the-variants as kind
 use Rattle.program.specs.declared.rows.Row.{Row}
 use Rattle.program.specs.declared.rows.Term.{Term}

@@ -1,10 +1,9 @@
 -- A search for the row that opens a channel's handler. Assumes nothing.
-use mathlib.Core.Bool.{Bool, true, false, cond}
-use mathlib.Core.List.{List, [], _∷_}
+use mathlib.Core.Bool.{true, false}
+use mathlib.Core.List.{List, []}
 use mathlib.Core.Path.{_≡_, refl, ap, sym, _∙_}
 use Prim.Native.Nat.{ℕ, _+_, _<_, _≤_}
 use native.Mathlib.Omega.{arith}
-use lib.Dec.{eqb}
 use lib.ListN.{length, getD, drop}
 use Rattle.std.proofs.shelf.Lists.{at-drop-more, at-drop-all}
 use Rattle.std.proofs.shelf.Tests.{eqb-true, eqb-false}
@@ -14,8 +13,8 @@ use Rattle.program.specs.declared.rows.Kind.{Kind}
 use Rattle.program.specs.declared.rows.Kind.the-variants as kind
 use Rattle.program.specs.declared.rows.Row.{Row}
 use Rattle.program.specs.declared.rows.Term.{Term}
-use Rattle.program.specs.Building.{blank-row, lines-from, is-handler-of}
-use Rattle.program.specs.Trees.{frames, here, handled, program-of, tree-of}
+use Rattle.program.specs.Building.{blank-row, is-handler-of}
+use Rattle.program.specs.Trees.{here, handled, tree-of}
 use Rattle.interpreter.specs.Handlers.{Begins-at}
 use Rattle.interpreter.specs.Places.{frames-at}
 

@@ -1,7 +1,7 @@
 -- Programs whose outputs go to out channels make out-tickets only, and sound tables are such programs. Assumes nothing.
 use mathlib.Core.Bool.{Bool, true, false, cond}
 use mathlib.Core.List.{List, [], _∷_, _++_}
-use mathlib.Core.Path.{_≡_, refl, ap, sym, subst, _∙_}
+use mathlib.Core.Path.{sym, subst}
 use Prim.Native.Nat.{ℕ, zero, suc, _≤_, _<_}
 use lib.Dec.{eqb, ltb}
 use lib.ListN.{length, getD, set}
@@ -20,9 +20,9 @@ use Rattle.program.specs.declared.rows.Kind.the-variants as kind
 use Rattle.program.specs.declared.rows.Row.{Row}
 use Rattle.program.specs.declared.rows.Term.{Term}
 use Rattle.program.specs.Building.{blank-row, lines-from}
-use Rattle.program.specs.Trees.{Frame, whole, parted, prefixed, halved, branched, repeated, around, framed, frames, here, handled, program-of, tree-of}
+use Rattle.program.specs.Trees.{Frame, whole, parted, prefixed, halved, branched, repeated, around, framed, frames, here, handled, tree-of}
 use Rattle.interpreter.specs.Laws.{Outward-is-lawful, Sound-is-lawful}
-use Rattle.interpreter.specs.Outward.{Outward, Outward-handler, Outward-tree}
+use Rattle.interpreter.specs.Outward.{Outward, Outward-tree}
 use Rattle.interpreter.specs.Places.{expression-at}
 use Rattle.interpreter.specs.Sound.{Sound-row, Sound}
 

@@ -2,9 +2,9 @@
 use mathlib.Core.Bool.{Bool, true, false, not}
 use mathlib.Core.List.{List, [], _++_}
 use mathlib.Core.Path.{_≡_, refl, ap, sym, _∙_}
-use Prim.Native.Nat.{ℕ, _-_, _≤_}
+use Prim.Native.Nat.{ℕ, _-_}
 use native.Mathlib.Omega.{arith}
-use lib.ListN.{length, take, drop, length-take, take-append-drop}
+use lib.ListN.{length, drop, length-take, take-append-drop}
 use Rattle.ticket.specs.declared.Ticket.{Ticket}
 use Rattle.language.specs.Block.{Block, done, Tree, handler-of, _⨟_}
 use Rattle.language.specs.Run.{run}
@@ -14,7 +14,7 @@ use Rattle.machine.specs.declared.Reaction.{Reaction}
 use Rattle.machine.specs.Meaning.{Outcome}
 use Rattle.machine.specs.Reacting.{Reacts}
 use Rattle.interpreter.specs.declared.job.Job.{Job}
-use Rattle.interpreter.specs.Jobs.{tickets, start, resume, Ready, Keeps}
+use Rattle.interpreter.specs.Jobs.{tickets, resume, Ready, Keeps, Runs}
 
 -- how a reaction ends that has nothing left to run
 abbrev at-end : Bool → Job → Ending
@@ -45,15 +45,15 @@ answers n false i j k =
     record { made = omega (arith, length-take (j .made) (j .slip), k .ready .room, k .ready .long); steps = refl; stalled = refl; words = refl; slip-holds = slip-is j i (k .ready) (k .beyond) }
 
 -- a handler's block that ran as it should makes the reaction
-pub reacts : (p : Tree) (words : List ℕ) (slip : List Ticket) (t : Ticket) (n : ℕ) (b : Block) (e : Bool) (j : Job) → handler-of p (t .channel) ≡ b → Keeps (opening words slip t n) j → ((k : Block) → start (opening words slip t n) (b ⨟ k) ≡ resume e j k) → Reacts (reaction p words t n) slip (answer n e j) (j .words) (j .slip)
-reacts p words slip t n b e j is keeps runs =
+pub reacts : (p : Tree) (words : List ℕ) (slip : List Ticket) (t : Ticket) (n : ℕ) (b : Block) (e : Bool) (j : Job) → handler-of p (t .channel) ≡ b → Runs (opening words slip t n) (λ k. b ⨟ k) e j → Reacts (reaction p words t n) slip (answer n e j) (j .words) (j .slip)
+reacts p words slip t n b e j is runs =
     let all : iterate (t .value) n words [] (command (handler-of p (t .channel))) ≡ at-end e j =
     run-is-iterated-step (t .value) n words [] (handler-of p (t .channel))
     ∙ ap (run (t .value) n words []) (is ∙ sym (⨟-done b))
-    ∙ runs done
+    ∙ runs .as-told done
     ∙ resume-done e j
     in
-    rw all (answers n e (opening words slip t n) j keeps)
+    rw all (answers n e (opening words slip t n) j (runs .keeps))
 
 pub reacts-as : (o : Outcome) (slip : List Ticket) (n : ℕ) (e e′ : Bool) (j j′ : Job) → e′ ≡ e → j′ ≡ j → Reacts o slip (answer n e j) (j .words) (j .slip) → Reacts o slip (answer n e′ j′) (j′ .words) (j′ .slip)
 reacts-as o slip n e e′ j j′ same-end same-job h = rw (same-end, same-job) h

@@ -1,16 +1,17 @@
 -- The expressions at a place of the terms, once the term there is known. Assumes nothing.
 use mathlib.Core.List.{List, [], _∷_}
-use mathlib.Core.Path.{_≡_, refl, ap, subst, _∙_}
+use mathlib.Core.Path.{_≡_, refl, ap, ap₂, sym, subst, _∙_}
 use Prim.Native.Nat.{ℕ, _+_, _≤_, _<_}
 use native.Mathlib.Decide.{decLt}
 use native.Mathlib.Omega.{arith}
 use lib.ListN.{length, getD, drop}
 use Rattle.std.proofs.shelf.Lists.{at-drop-more, at-drop-all}
 use Rattle.language.specs.declared.Operator.{Operator}
-use Rattle.language.specs.Expression.{Expr, binary}
+use Rattle.language.specs.Expression.{Expr, binary, value}
+use Rattle.language.specs.Operators.{applied}
 use Rattle.program.specs.declared.rows.Term.{Term}
 use Rattle.program.specs.declared.rows.Term.the-variants as term
-use Rattle.program.specs.Trees.{operate, expressions, first-expression}
+use Rattle.program.specs.Trees.{operate, expressions, first-expression, expression-of}
 use Rattle.program.specs.Writing.{In-range}
 use Rattle.interpreter.specs.Places.{rest-expressions}
 
@@ -48,3 +49,8 @@ two-parts o ts i d h e some ranged =
     let P : List Expr → Type 0 = λ es. In-range (first-expression es) in
     let both = subst P (here ∙ p .is) ranged in
     record { operands = p; is = here ∙ p .is; left-ranged = both .0; right-ranged = both .1 }
+
+-- what an operator is worth: a and b are what its parts are worth, the second of which begins at m
+pub operator-value : (o : Operator) (ts : List Term) (i m x : ℕ) (words : List ℕ) (a b r : ℕ) → Two-parts o ts i → a ≡ value x words (expression-of (drop (i + 1) ts)) → expressions (drop m ts) ≡ rest-expressions (expressions (drop (i + 1) ts)) → b ≡ value x words (expression-of (drop m ts)) → r ≡ applied o a b → r ≡ value x words (expression-of (drop i ts))
+operator-value o ts i m x words a b r p left rest right is =
+    is ∙ ap₂ (applied o) left (right ∙ ap (λ es. value x words (first-expression es)) rest) ∙ ap (λ es. value x words (first-expression es)) (sym (p .is))

@@ -37,3 +37,13 @@ pub record Keeps (j j′ : Job) : Type 0 where
   pub fewer-steps : j′ .left ≤ j .left
   pub more-tickets : j .made ≤ j′ .made
   pub beyond : drop (j′ .made) (j′ .slip) ≡ drop (j′ .made) (j .slip)
+
+-- a part of a reaction, whatever k follows it: it ended, or the reaction stalled in it
+pub record Runs (j : Job) (part : Block → Block) (ended : Bool) (j′ : Job) : Type 0 where
+  pub keeps : Keeps j j′
+  pub as-told : (k : Block) → start j (part k) ≡ resume ended j′ k
+
+-- a part of a reaction that is under way: what is left of it
+pub record Reaches (j : Job) (part : Block → Block) (j′ : Job) (rest : Block → Block) : Type 0 where
+  pub keeps : Keeps j j′
+  pub as-told : (k : Block) → start j (part k) ≡ start j′ (rest k)

@@ -3,7 +3,7 @@ use mathlib.Core.Bool.{Bool, true, false}
 use mathlib.Core.List.{List, [], _∷_}
 use Prim.Native.Nat.{ℕ, _+_}
 use lib.ListN.{take, drop, getD}
-use Rattle.language.specs.Block.{Block, done, skip, assign, output, branch, repeat}
+use Rattle.language.specs.Block.{Block, done, skip, assign, output, branch, repeat, _⨟_}
 use Rattle.language.specs.Expression.{Expr}
 use Rattle.program.specs.declared.rows.Kind.{Kind}
 use Rattle.program.specs.declared.rows.Kind.the-variants as kind
@@ -71,3 +71,18 @@ next rows kind.If i p = past (getD rows p blank-row .kind) p (getD rows p blank-
 next rows kind.While i p = p + 1
 next rows kind.Else i p = i + 1
 next rows kind.Close i p = i + 1
+
+abbrev pub next-at : List Row → ℕ → ℕ
+next-at rows i = next rows (getD rows i blank-row .kind) i (getD rows i blank-row .partner)
+
+-- what is left of the innermost block before row i, and then k
+abbrev pub block-at : List Row → List Term → ℕ → Block → Block
+block-at rows terms i k = here (frames-at rows terms i) ⨟ k
+
+-- the command of row i, and then k
+abbrev pub row-at : List Row → List Term → ℕ → Block → Block
+row-at rows terms i k = command (getD rows i blank-row .kind) (expression-at terms (getD rows i blank-row)) (frames-at rows terms (i + 1)) k
+
+-- the block behind row i while the row's test holds, and then k
+abbrev pub repeat-at : List Row → List Term → ℕ → Block → Block
+repeat-at rows terms i k = repeat (expression-at terms (getD rows i blank-row)) (here (frames-at rows terms (i + 1))) k

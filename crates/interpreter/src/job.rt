@@ -1,9 +1,9 @@
 // One reaction under way: what it has made so far, and what is left to it.
 ghost use mathlib.Core.Path.{_≡_};
 ghost use Prim.Native.Nat.{_<_};
-ghost use lib.Dec.{ltb};
-ghost use Rattle.language.specs.Block.{Block, assign, output};
-ghost use Rattle.interpreter.specs.Jobs.{start, resume, spent, Ready, Keeps};
+ghost use lib.Dec.{eqb, ltb};
+ghost use Rattle.language.specs.Block.{assign, output};
+ghost use Rattle.interpreter.specs.Jobs.{spent, Ready, Runs};
 ghost use Rattle.interpreter.specs.Places.{expression-at};
 ghost use Rattle.interpreter.specs.Sound.{Expressed};
 use crate::evaluate::evaluate;
@@ -27,6 +27,12 @@ pub struct Job {
 }
 
 impl Job {
+    fn is_full(&self) -> bool
+        ensures { λ r. ⌜ r ≡ eqb (now (self .entry) .made) 16 ⌝ }
+    {
+        self.made == 16
+    }
+
     // Takes one step off. Returns whether there was one.
     pub fn spend(&mut self) -> bool
         ensures due { λ r. ⌜ r ≡ ltb 0 (now (self .entry) .left) ⌝ }
@@ -44,8 +50,7 @@ impl Job {
         requires known { ⌜ variable < 16 ⌝ }
         requires expressed { ⌜ Expressed (now terms) row ⌝ }
         requires ready { ⌜ Ready (now self) ⌝ }
-        ensures keeps { λ _. ⌜ Keeps (now (self .entry)) (now (self .exit)) ⌝ }
-        ensures run { λ r. ⌜ ((k : Block) → start (now (self .entry)) (assign variable (expression-at (now (terms .entry)) row) k) ≡ resume r (now (self .exit)) k) ⌝ }
+        ensures { λ r. ⌜ Runs (now (self .entry)) (assign variable (expression-at (now (terms .entry)) row)) r (now (self .exit)) ⌝ }
     {
         if !self.spend() {
             return false;
@@ -58,10 +63,9 @@ impl Job {
     pub fn send(&mut self, channel: u8, terms: &[Term], row: Row) -> bool
         requires expressed { ⌜ Expressed (now terms) row ⌝ }
         requires ready { ⌜ Ready (now self) ⌝ }
-        ensures keeps { λ _. ⌜ Keeps (now (self .entry)) (now (self .exit)) ⌝ }
-        ensures run { λ r. ⌜ ((k : Block) → start (now (self .entry)) (output channel (expression-at (now (terms .entry)) row) k) ≡ resume r (now (self .exit)) k) ⌝ }
+        ensures { λ r. ⌜ Runs (now (self .entry)) (output channel (expression-at (now (terms .entry)) row)) r (now (self .exit)) ⌝ }
     {
-        if self.made == 16 {
+        if self.is_full() {
             return false;
         }
         if !self.spend() {

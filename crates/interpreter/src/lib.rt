@@ -1,7 +1,5 @@
 // Runs site programs: what becomes of a ticket, row by row, within an allowance of steps.
 ghost use mathlib.Core.Path.{_≡_};
-ghost use mathlib.Core.List.{List};
-ghost use Rattle.language.specs.Block.{handler-of};
 ghost use Rattle.language.specs.Step.{reaction};
 ghost use Rattle.machine.specs.Reacting.{Reacts};
 ghost use Rattle.program.specs.Building.{is-handler-of};

@@ -2,11 +2,9 @@
 ghost use mathlib.Core.Path.{_≡_};
 ghost use Prim.Native.Nat.{_+_, _<_};
 ghost use lib.ListN.{length, getD};
-ghost use Rattle.language.specs.Block.{Block, repeat, _⨟_};
 ghost use Rattle.program.specs.Building.{blank-row};
-ghost use Rattle.program.specs.Trees.{here};
-ghost use Rattle.interpreter.specs.Jobs.{start, resume, Ready, Keeps};
-ghost use Rattle.interpreter.specs.Places.{expression-at, frames-at, command, next};
+ghost use Rattle.interpreter.specs.Jobs.{Ready, Runs};
+ghost use Rattle.interpreter.specs.Places.{frames-at, next-at, block-at, row-at, repeat-at};
 ghost use Rattle.interpreter.specs.Sound.{Expressed, Sound};
 use crate::evaluate::evaluate;
 use crate::job::Job;
@@ -25,7 +23,7 @@ impl Tables<'_> {
     fn after(&self, at: usize) -> usize
         requires within { ⌜ at < length (now (now self .rows)) ⌝ }
         requires sound { ⌜ Sound (now (now self .rows)) (now (now self .terms)) ⌝ }
-        ensures { λ r. ⌜ r ≡ next (now (now (self .entry) .rows)) (getD (now (now (self .entry) .rows)) at blank-row .kind) at (getD (now (now (self .entry) .rows)) at blank-row .partner) ⌝ }
+        ensures { λ r. ⌜ r ≡ next-at (now (now (self .entry) .rows)) at ⌝ }
     {
         let rows = self.rows;
         let end = rows[at].partner as usize;
@@ -45,8 +43,7 @@ impl Tables<'_> {
         requires inside { ⌜ 0 < length (frames-at (now (now self .rows)) (now (now self .terms)) from) ⌝ }
         requires sound { ⌜ Sound (now (now self .rows)) (now (now self .terms)) ⌝ }
         requires ready { ⌜ Ready (now job) ⌝ }
-        ensures keeps { λ _. ⌜ Keeps (now (job .entry)) (now (job .exit)) ⌝ }
-        ensures run { λ r. ⌜ ((k : Block) → start (now (job .entry)) (here (frames-at (now (now (self .entry) .rows)) (now (now (self .entry) .terms)) from) ⨟ k) ≡ resume r (now (job .exit)) k) ⌝ }
+        ensures { λ r. ⌜ Runs (now (job .entry)) (block-at (now (now (self .entry) .rows)) (now (now (self .entry) .terms)) from) r (now (job .exit)) ⌝ }
     {
         let rows = self.rows;
         let mut at = from;
@@ -69,8 +66,7 @@ impl Tables<'_> {
         requires inside { ⌜ 0 < length (frames-at (now (now self .rows)) (now (now self .terms)) at) ⌝ }
         requires sound { ⌜ Sound (now (now self .rows)) (now (now self .terms)) ⌝ }
         requires ready { ⌜ Ready (now job) ⌝ }
-        ensures keeps { λ _. ⌜ Keeps (now (job .entry)) (now (job .exit)) ⌝ }
-        ensures run { λ r. ⌜ ((k : Block) → start (now (job .entry)) (command (getD (now (now (self .entry) .rows)) at blank-row .kind) (expression-at (now (now (self .entry) .terms)) (getD (now (now (self .entry) .rows)) at blank-row)) (frames-at (now (now (self .entry) .rows)) (now (now (self .entry) .terms)) (at + 1)) k) ≡ resume r (now (job .exit)) k) ⌝ }
+        ensures { λ r. ⌜ Runs (now (job .entry)) (row-at (now (now (self .entry) .rows)) (now (now (self .entry) .terms)) at) r (now (job .exit)) ⌝ }
     {
         let rows = self.rows;
         let terms = self.terms;
@@ -104,8 +100,7 @@ impl Tables<'_> {
         requires expressed { ⌜ Expressed (now (now self .terms)) (getD (now (now self .rows)) at blank-row) ⌝ }
         requires sound { ⌜ Sound (now (now self .rows)) (now (now self .terms)) ⌝ }
         requires ready { ⌜ Ready (now job) ⌝ }
-        ensures keeps { λ _. ⌜ Keeps (now (job .entry)) (now (job .exit)) ⌝ }
-        ensures run { λ r. ⌜ ((k : Block) → start (now (job .entry)) (repeat (expression-at (now (now (self .entry) .terms)) (getD (now (now (self .entry) .rows)) at blank-row)) (here (frames-at (now (now (self .entry) .rows)) (now (now (self .entry) .terms)) (at + 1))) k) ≡ resume r (now (job .exit)) k) ⌝ }
+        ensures { λ r. ⌜ Runs (now (job .entry)) (repeat-at (now (now (self .entry) .rows)) (now (now (self .entry) .terms)) at) r (now (job .exit)) ⌝ }
     {
         let rows = self.rows;
         let terms = self.terms;

@@ -1,4 +1,4 @@
-use mathlib.Core.Path.{sym, _∙_}
+use mathlib.Core.Path.{sym}
 use native.Mathlib.Omega.{arith}
 use Rattle.interpreter.proofs.Openings.{behind-more, behind-all, begins-here}
 use Rattle.interpreter.proofs.handler.Needs as need

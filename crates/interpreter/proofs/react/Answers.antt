@@ -29,9 +29,9 @@ returns c =
           let b = here (frames-at rows terms (w .in-Some .at + 1)) in
           let block = w .block-ended in
           reacts-as (reaction p words t n) slip n (block .result) e (block .last .job) j (w .ended-is) (w .job-is)
-          (reacts p words slip t n b (block .result) (block .last .job) (w .in-Some .ensures tt .body terms) (block .ensures .keeps) (block .ensures .run))
+          (reacts p words slip t n b (block .result) (block .last .job) (w .in-Some .ensures tt .body terms) (block .ensures))
       | in-None w ↦
           let ready : Ready first = record { room = search needs; long = search needs } in
           reacts-as (reaction p words t n) slip n true e first j (w .ended-is) (w .job-is)
-          (reacts p words slip t n done true first (w .in-None .ensures tt terms) (keeps-all first ready) (λ k. refl))
+          (reacts p words slip t n done true first (w .in-None .ensures tt terms) (record { keeps = keeps-all first ready; as-told = λ k. refl }))
     ]

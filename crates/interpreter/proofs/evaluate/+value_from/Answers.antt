@@ -1,15 +1,14 @@
 use mathlib.Core.List.{List}
-use mathlib.Core.Path.{_≡_, ap, ap₂, subst, _∙_}
+use mathlib.Core.Path.{ap, sym, subst, _∙_}
 use Prim.Native.Nat.{_+_, _<_}
 use native.Mathlib.Omega.{arith}
 use lib.ListN.{length, drop}
-use Rattle.language.specs.Expression.{Expr, value}
-use Rattle.language.specs.Operators.{applied}
+use Rattle.language.specs.Expression.{Expr}
 use Rattle.program.specs.declared.rows.Term.the-variants.{Input}
 use Rattle.program.specs.Trees.{expressions, first-expression}
 use Rattle.program.specs.Writing.{In-range}
 use Rattle.interpreter.specs.Places.{rest-expressions}
-use Rattle.interpreter.proofs.Terms.{at-term, expression-is-within, two-parts}
+use Rattle.interpreter.proofs.Terms.{at-term, expression-is-within, two-parts, operator-value}
 use Rattle.interpreter.proofs.evaluate.+value_from.Needs as need
 
 pub index-words-v : need.index-words-v
@@ -52,8 +51,8 @@ returns-in-Operator t c =
     let a = c .value-from-left .ensures in
     let b = c .value-from-right .ensures in
     record {
-      value = rw (p .is) (c .apply .ensures ∙ ap₂ (applied (c .in-Operator .operator)) (a .value) (b .value ∙ ap (λ es. value (c .args .x) (c .args .words .now) (first-expression es)) (a .rest)));
-      rest = rw (p .is) (b .rest ∙ ap rest-expressions (a .rest));
+      value = operator-value (c .in-Operator .operator) (c .args .terms .now) (c .args .at) (c .value-from-left .result .1) (c .args .x) (c .args .words .now) (c .value-from-left .result .0) (c .value-from-right .result .0) (c .apply .result) p (a .value) (a .rest) (b .value) (c .apply .ensures);
+      rest = b .rest ∙ ap rest-expressions (a .rest) ∙ ap rest-expressions (sym (p .is));
       onward = omega arith;
       place = omega arith;
     }

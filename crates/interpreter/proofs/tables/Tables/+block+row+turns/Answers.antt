@@ -1,60 +1,47 @@
-use mathlib.Core.Path.{_≡_, ap, sym, _∙_}
-use Prim.Native.Nat.{_+_, _<_}
+use mathlib.Core.Path.{refl, sym, subst}
+use Prim.Native.Nat.{ℕ, _+_, _<_}
 use native.Mathlib.Omega.{arith}
-use lib.ListN.{getD, length}
-use Rattle.language.specs.Block.{repeat, _⨟_}
+use lib.ListN.{length}
 use Rattle.program.specs.declared.rows.Kind.the-variants.{While}
-use Rattle.program.specs.Building.{blank-row}
-use Rattle.program.specs.Trees.{here}
-use Rattle.interpreter.specs.Places.{expression-at, frames-at, second-of, is-parted, command, next}
-use Rattle.interpreter.specs.Jobs.{start}
-use Rattle.interpreter.proofs.Frames.{open-is-within, stops, goes, goes-then, opens-if, opens-while, sound-at, second-behind, no-second}
-use Rattle.interpreter.proofs.Keeping.{keeps-on, keeps-spent}
-use Rattle.interpreter.proofs.Moves.{branch-zero, branch-other, repeat-zero, repeat-other, left-falls, skip-move}
+use Rattle.interpreter.specs.Jobs.{Reaches}
+use Rattle.interpreter.specs.Places.{frames-at, next-at, block-at, row-at, repeat-at}
+use Rattle.interpreter.proofs.Chains.{reaches-on, runs-rest, reaches-more, stalls-in-first}
+use Rattle.interpreter.proofs.Frames.{open-is-within, goes, opens-if, opens-while, sound-at}
+use Rattle.interpreter.proofs.Keeping.{keeps-spent}
+use Rattle.interpreter.proofs.Moves.{left-falls}
+use Rattle.interpreter.proofs.Running.{block-ends, row-skips, repeat-ends, repeat-turns, first-part, second-part, no-second-part}
 use Rattle.interpreter.proofs.tables.Tables.+block+row+turns.Needs as need
 
 pub block-returns-in-Else : need.block-returns-in-Else
 block-returns-in-Else t c =
     let rows = c .args .self .now .rows .now in
     let terms = c .args .self .now .terms .now in
-    record {
-      keeps = c .loop-at .inv .2;
-      run = λ k. c .loop-at .inv .3 k ∙ ap (λ b. start (c .loop-at .job) (b ⨟ k)) (stops rows terms (c .loop-at .at) (c .loop-at .inv .0) (c .in-Else .is));
-    }
+    block-ends rows terms (c .loop-at .at) (c .loop-at .inv .0) (c .in-Else .is) (c .args .job .now) (c .loop-at .job) (block-at rows terms (c .args .from)) (c .loop-at .inv .2)
 
 pub block-returns-then-not-row : need.block-returns-then-not-row
 block-returns-then-not-row t c =
     let rows = c .args .self .now .rows .now in
     let terms = c .args .self .now .terms .now in
     let at = c .loop-at .at in
-    let r = getD rows at blank-row in
     let g = goes rows terms at (c .pre .sound) (c .loop-at .inv .0) (c .loop-at .inv .1) (c .in-rest .not-Else) (c .in-rest .not-Close) in
-    let row = c .if-not-row .ensures tt in
-    record {
-      keeps = keeps-on (c .args .job .now) (c .loop-at .job) (c .row .last .job) (c .loop-at .inv .2) (row .keeps);
-      run = λ k.
-          c .loop-at .inv .3 k
-          ∙ ap (start (c .loop-at .job)) (goes-then rows terms at r (r .kind) g k)
-          ∙ row .run (here (frames-at rows terms (next rows (r .kind) at (r .partner))) ⨟ k);
-    }
+    stalls-in-first (c .args .job .now) (c .loop-at .job) (c .row .last .job) (block-at rows terms (c .args .from)) (block-at rows terms at) (c .loop-at .inv .2)
+    (row-at rows terms at) (block-at rows terms (next-at rows at)) (g .is) (c .if-not-row .ensures tt)
 
 pub block-loop-at-again : need.block-loop-at-again
 block-loop-at-again t c =
     let rows = c .args .self .now .rows .now in
     let terms = c .args .self .now .terms .now in
     let at = c .loop-at .at in
-    let r = getD rows at blank-row in
+    let from = block-at rows terms (c .args .from) in
     let g = goes rows terms at (c .pre .sound) (c .loop-at .inv .0) (c .loop-at .inv .1) (c .in-rest .not-Else) (c .in-rest .not-Close) in
-    let row = c .if-not-row .ensures tt in
-    let i : 0 < length (frames-at rows terms (c .after-at .result)) = rw (c .after-at .ensures) (g .inside) in (
-      open-is-within rows terms (c .after-at .result) i,
-      i,
-      keeps-on (c .args .job .now) (c .loop-at .job) (c .row .last .job) (c .loop-at .inv .2) (row .keeps),
-      λ k.
-          c .loop-at .inv .3 k
-          ∙ ap (start (c .loop-at .job)) (goes-then rows terms at r (r .kind) g k)
-          ∙ row .run (here (frames-at rows terms (next rows (r .kind) at (r .partner))) ⨟ k)
-          ∙ ap (λ i. start (c .row .last .job) (here (frames-at rows terms i) ⨟ k)) (sym (c .after-at .ensures)),
+    let come =
+    reaches-more (c .args .job .now) (c .loop-at .job) (c .row .last .job) from (block-at rows terms at) (c .loop-at .inv .2)
+    (row-at rows terms at) (block-at rows terms (next-at rows at)) (g .is) (c .if-not-row .ensures tt)
+    in
+    let inside : 0 < length (frames-at rows terms (c .after-at .result)) = rw (c .after-at .ensures) (g .inside) in (
+      open-is-within rows terms (c .after-at .result) inside,
+      inside,
+      subst (λ (i : ℕ). Reaches (c .args .job .now) from (c .row .last .job) (block-at rows terms i)) (sym (c .after-at .ensures)) come,
     )
 
 pub row-block-requires : need.row-block-requires
@@ -63,24 +50,8 @@ row-block-requires t c κs =
     let terms = c .args .self .now .terms .now in
     let spend = c .if-not-spend .ensures tt in
     let i = opens-if rows terms (c .args .at) (c .pre .within) (c .in-If .is) (c .pre .inside) in
-    let f = left-falls (c .args .job .now) (c .spend-in-If .last .self) (spend .due) (spend .job) in
+    let f = left-falls (c .args .job .now) (c .spend-in-If .last .self) (c .pre .ready) (spend .job) (spend .due) in
     (omega arith, (open-is-within rows terms (c .args .at + 1) i, (i, (c .pre .sound, keeps-spent (c .args .job .now) (c .spend-in-If .last .self) (c .pre .ready) (spend .job) .ready))))
-
-pub row-returns-then-evaluate-ne0 : need.row-returns-then-evaluate-ne0
-row-returns-then-evaluate-ne0 t c =
-    let rows = c .args .self .now .rows .now in
-    let terms = c .args .self .now .terms .now in
-    let e = expression-at terms (getD rows (c .args .at) blank-row) in
-    let fs = frames-at rows terms (c .args .at + 1) in
-    let spend = c .if-not-spend .ensures tt in
-    let step = keeps-spent (c .args .job .now) (c .spend-in-If .last .self) (c .pre .ready) (spend .job) in
-    record {
-      keeps = keeps-on (c .args .job .now) (c .spend-in-If .last .self) (c .block .last .job) step (c .block .ensures .keeps);
-      run = λ k.
-          ap (λ u. start (c .args .job .now) (command u e fs k)) (c .in-If .is)
-          ∙ branch-other (c .args .job .now) (c .spend-in-If .last .self) (spend .due) (spend .job) (is-parted fs) e (here fs) (second-of fs) k (λ z. c .if-evaluate-ne0 .taken (c .evaluate .ensures ∙ z))
-          ∙ c .block .ensures .run k;
-    }
 
 pub row-turns-requires : need.row-turns-requires
 row-turns-requires t c κs =
@@ -92,89 +63,68 @@ row-turns-requires t c κs =
 
 pub row-returns-in-Skip : need.row-returns-in-Skip
 row-returns-in-Skip t c =
+    row-skips (c .args .self .now .rows .now) (c .args .self .now .terms .now) (c .args .at) (c .args .job .now) (c .spend .last .self) (c .pre .ready) (c .spend .ensures .job) (c .spend .result) (c .spend .ensures .due) (c .in-Skip .is)
+
+pub row-returns-then-evaluate-ne0 : need.row-returns-then-evaluate-ne0
+row-returns-then-evaluate-ne0 t c =
     let rows = c .args .self .now .rows .now in
     let terms = c .args .self .now .terms .now in
-    let e = expression-at terms (getD rows (c .args .at) blank-row) in
-    let fs = frames-at rows terms (c .args .at + 1) in
-    record {
-      keeps = keeps-spent (c .args .job .now) (c .spend .last .self) (c .pre .ready) (c .spend .ensures .job);
-      run = λ k. ap (λ u. start (c .args .job .now) (command u e fs k)) (c .in-Skip .is) ∙ skip-move (c .args .job .now) (c .spend .last .self) (c .spend .result) (c .spend .ensures .due) (c .spend .ensures .job) k;
-    }
+    let at = c .args .at in
+    let j = c .args .job .now in
+    let j′ = c .spend-in-If .last .self in
+    let spend = c .if-not-spend .ensures tt in
+    let come = first-part rows terms at j j′ (c .pre .ready) (spend .job) (spend .due) (c .evaluate .result) (c .evaluate .ensures) (c .pre .sound) (c .pre .within) (c .in-If .is) (c .if-evaluate-ne0 .taken) in
+    runs-rest j j′ (c .block .last .job) (row-at rows terms at) (block-at rows terms (at + 1)) come (c .block .result) (c .block .ensures)
 
 pub row-returns-in-Else : need.row-returns-in-Else
 row-returns-in-Else t c =
     let rows = c .args .self .now .rows .now in
     let terms = c .args .self .now .terms .now in
-    let e = expression-at terms (getD rows (c .args .at) blank-row) in
-    let fs = frames-at rows terms (c .args .at + 1) in
+    let at = c .args .at in
+    let j = c .args .job .now in
+    let j′ = c .spend-in-If .last .self in
     let spend = c .if-not-spend .ensures tt in
-    let step = keeps-spent (c .args .job .now) (c .spend-in-If .last .self) (c .pre .ready) (spend .job) in
-    record {
-      keeps = keeps-on (c .args .job .now) (c .spend-in-If .last .self) (c .block-in-Else .last .job) step (c .block-in-Else .ensures .keeps);
-      run = λ k.
-          ap (λ u. start (c .args .job .now) (command u e fs k)) (c .in-If .is)
-          ∙ branch-zero (c .args .job .now) (c .spend-in-If .last .self) (spend .due) (spend .job) (is-parted fs) e (here fs) (second-of fs) k (sym (c .evaluate .ensures) ∙ c .if-evaluate-ne0 .left)
-          ∙ ap (λ b. start (c .spend-in-If .last .self) (b ⨟ k)) (second-behind rows terms (c .pre .sound) (c .args .at) (c .pre .within) (c .in-If .is) (c .in-Else .is))
-          ∙ c .block-in-Else .ensures .run k;
-    }
+    let come = second-part rows terms at j j′ (c .pre .ready) (spend .job) (spend .due) (c .evaluate .result) (c .evaluate .ensures) (c .pre .sound) (c .pre .within) (c .in-If .is) (c .if-evaluate-ne0 .left) (c .in-Else .is) in
+    runs-rest j j′ (c .block-in-Else .last .job) (row-at rows terms at) _ come (c .block-in-Else .result) (c .block-in-Else .ensures)
 
 pub row-returns-in-rest : need.row-returns-in-rest
 row-returns-in-rest t c =
-    let rows = c .args .self .now .rows .now in
-    let terms = c .args .self .now .terms .now in
-    let e = expression-at terms (getD rows (c .args .at) blank-row) in
-    let fs = frames-at rows terms (c .args .at + 1) in
     let spend = c .if-not-spend .ensures tt in
-    let step = keeps-spent (c .args .job .now) (c .spend-in-If .last .self) (c .pre .ready) (spend .job) in
-    record {
-      keeps = step;
-      run = λ k.
-          ap (λ u. start (c .args .job .now) (command u e fs k)) (c .in-If .is)
-          ∙ branch-zero (c .args .job .now) (c .spend-in-If .last .self) (spend .due) (spend .job) (is-parted fs) e (here fs) (second-of fs) k (sym (c .evaluate .ensures) ∙ c .if-evaluate-ne0 .left)
-          ∙ ap (λ b. start (c .spend-in-If .last .self) (b ⨟ k)) (no-second rows terms (c .pre .sound) (c .args .at) (c .pre .within) (c .in-If .is) (c .in-rest .not-Else));
-    }
+    no-second-part (c .args .self .now .rows .now) (c .args .self .now .terms .now) (c .args .at) (c .args .job .now) (c .spend-in-If .last .self) (c .pre .ready) (spend .job) (spend .due) (c .evaluate .result) (c .evaluate .ensures)
+    (c .pre .sound) (c .pre .within) (c .in-If .is) (c .if-evaluate-ne0 .left) (c .in-rest .not-Else)
 
 pub turns-returns-then-evaluate-eq0 : need.turns-returns-then-evaluate-eq0
 turns-returns-then-evaluate-eq0 t c =
     let rows = c .args .self .now .rows .now in
     let terms = c .args .self .now .terms .now in
-    let e = expression-at terms (getD rows (c .args .at) blank-row) in
-    let b = here (frames-at rows terms (c .args .at + 1)) in
     let spend = c .turn-test .ensures tt in
-    record {
-      keeps = keeps-on (c .args .job .now) (c .turn .job) (c .spend .last .self) (c .turn .inv .0) (keeps-spent (c .turn .job) (c .spend .last .self) (c .turn .inv .0 .ready) (spend .job));
-      run = λ k. c .turn .inv .1 k ∙ repeat-zero (c .turn .job) (c .spend .last .self) (spend .due) (spend .job) e b k (sym (c .evaluate .ensures) ∙ c .if-evaluate-eq0 .taken);
-    }
+    let again = repeat-at rows terms (c .args .at) in
+    let come = c .turn .inv in
+    runs-rest (c .args .job .now) (c .turn .job) (c .spend .last .self) again again come _
+    (repeat-ends rows terms (c .args .at) (c .turn .job) (c .spend .last .self) (come .keeps .ready) (spend .job) (spend .due) (c .evaluate .result) (c .evaluate .ensures) (c .if-evaluate-eq0 .taken))
 
 pub turns-returns-then-not-block : need.turns-returns-then-not-block
 turns-returns-then-not-block t c =
     let rows = c .args .self .now .rows .now in
     let terms = c .args .self .now .terms .now in
-    let e = expression-at terms (getD rows (c .args .at) blank-row) in
-    let b = here (frames-at rows terms (c .args .at + 1)) in
     let spend = c .turn-test .ensures tt in
-    let block = c .if-not-block .ensures tt in
-    let step = keeps-on (c .args .job .now) (c .turn .job) (c .spend .last .self) (c .turn .inv .0) (keeps-spent (c .turn .job) (c .spend .last .self) (c .turn .inv .0 .ready) (spend .job)) in
-    record {
-      keeps = keeps-on (c .args .job .now) (c .spend .last .self) (c .block .last .job) step (block .keeps);
-      run = λ k.
-          c .turn .inv .1 k
-          ∙ repeat-other (c .turn .job) (c .spend .last .self) (spend .due) (spend .job) e b k (λ z. c .if-evaluate-eq0 .left (c .evaluate .ensures ∙ z))
-          ∙ block .run (repeat e b k);
-    }
+    let again = repeat-at rows terms (c .args .at) in
+    let body = block-at rows terms (c .args .at + 1) in
+    let come =
+    reaches-on (c .args .job .now) (c .turn .job) (c .spend .last .self) again again (c .turn .inv) (λ k. body (again k))
+    (repeat-turns rows terms (c .args .at) (c .turn .job) (c .spend .last .self) (c .turn .inv .keeps .ready) (spend .job) (spend .due) (c .evaluate .result) (c .evaluate .ensures) (c .if-evaluate-eq0 .left))
+    in
+    stalls-in-first (c .args .job .now) (c .spend .last .self) (c .block .last .job) again (λ k. body (again k)) come body again (λ k. refl) (c .if-not-block .ensures tt)
 
 pub turns-turn-again : need.turns-turn-again
 turns-turn-again t c =
     let rows = c .args .self .now .rows .now in
     let terms = c .args .self .now .terms .now in
-    let e = expression-at terms (getD rows (c .args .at) blank-row) in
-    let b = here (frames-at rows terms (c .args .at + 1)) in
     let spend = c .turn-test .ensures tt in
-    let block = c .if-not-block .ensures tt in
-    let step = keeps-on (c .args .job .now) (c .turn .job) (c .spend .last .self) (c .turn .inv .0) (keeps-spent (c .turn .job) (c .spend .last .self) (c .turn .inv .0 .ready) (spend .job)) in (
-      keeps-on (c .args .job .now) (c .spend .last .self) (c .block .last .job) step (block .keeps),
-      λ k.
-          c .turn .inv .1 k
-          ∙ repeat-other (c .turn .job) (c .spend .last .self) (spend .due) (spend .job) e b k (λ z. c .if-evaluate-eq0 .left (c .evaluate .ensures ∙ z))
-          ∙ block .run (repeat e b k),
-    )
+    let again = repeat-at rows terms (c .args .at) in
+    let body = block-at rows terms (c .args .at + 1) in
+    let come =
+    reaches-on (c .args .job .now) (c .turn .job) (c .spend .last .self) again again (c .turn .inv) (λ k. body (again k))
+    (repeat-turns rows terms (c .args .at) (c .turn .job) (c .spend .last .self) (c .turn .inv .keeps .ready) (spend .job) (spend .due) (c .evaluate .result) (c .evaluate .ensures) (c .if-evaluate-eq0 .left))
+    in
+    reaches-more (c .args .job .now) (c .spend .last .self) (c .block .last .job) again (λ k. body (again k)) come body again (λ k. refl) (c .if-not-block .ensures tt)
