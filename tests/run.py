@@ -76,6 +76,30 @@ def switch_sheets():
             yield name, "react", text(given) + b"-\n", answer(1, wanted)
 
 
+def site_programs():
+    terms = b"A,0,+,+,+,+,+,+,+,x,x,x,x,x,x,x,x\n"
+    limits = {
+        "128 rows": (b"H,0\n" + b"S\n" * 126 + b"X\n", "ok"),
+        "129 rows": (b"H,0\n" + b"S\n" * 127 + b"X\n", "7,129,1"),
+        "a bad row after 128": (b"H,0\n" + b"S\n" * 126 + b"X\n" + b"S\n", "5,129,1"),
+        "512 terms": (b"H,0\n" + terms * 34 + b"A,0,x\n" * 2 + b"X\n", "ok"),
+        "513 terms": (b"H,0\n" + terms * 34 + b"A,0,x\n" * 3 + b"X\n", "7,38,1"),
+        "8193 bytes": (b"H,0\n" + b"S\n" * 4094 + b"\n", "1,0,0"),
+    }
+    for name, (given, wanted) in limits.items():
+        yield name, "react", given + b"-\n", answer(1, wanted)
+    made = "".join(f"O,1,16,{n}\n" for n in range(16)) + "T,1,stalled,49\n"
+    yield "a seventeenth ticket", "react", b"H,0\nW,k1\nO,16,v0\nA,0,+,v0,k1\nX\nX\n-\n\0I\0\0\0\0\0\0", made.encode()
+    for name, given, wanted in read_table("programs.txt"):
+        program, bar, tickets = given.partition(" | ")
+        fed = b"".join(ticket_bytes(*map(int, t.split(":"))) for t in tickets.split())
+        yield name, "react", text(program) + b"-\n" + fed, wanted.replace("/", "\n").encode() if bar else answer(1, wanted)
+
+
+def ticket_bytes(channel, value):
+    return bytes([channel, 73]) + value.to_bytes(4, "big") + bytes(2)
+
+
 def difference(program, given, wanted):
     """What is wrong with a run, or None."""
     try:
@@ -91,7 +115,7 @@ def difference(program, given, wanted):
 
 def main():
     passed = failed = 0
-    for cases in (batches, level_sheets, switch_sheets):
+    for cases in (batches, level_sheets, switch_sheets, site_programs):
         for name, program, given, wanted in cases():
             wrong = difference(program, given, wanted)
             if wrong:
