@@ -15,6 +15,7 @@ ROOT = pathlib.Path(__file__).resolve().parent.parent
 PROGRAMS = {
     "tickets": (generate.tickets_input, reports.report_tickets),
     "react": (generate.react_input, reports.report_react),
+    "labels": (generate.labels_input, reports.report_labels),
 }
 
 

@@ -158,3 +158,23 @@ def tickets_input(seed):
         line = damaged(r, line)
     sheet = level_sheet(r, count)
     return line + b"-\n" + (damaged(r, sheet) if r.random() < 0.1 else sheet) + b"-\n" + batch(r)
+
+
+def upward_sheet(random, count):
+    """A sheet under which many programs pass: what is written to has the top level, but for a few names."""
+    levels = {f"C,{c}": count - 1 for c in range(16, 32)} | {f"V,{v}": count - 1 for v in range(16)}
+    for name in random.sample([f"C,{c}" for c in range(4)] + [f"V,{v}" for v in range(4)] + ["C,16", "C,17"], random.randint(0, 3)):
+        levels[name] = random.randrange(count)
+    return "".join(f"{name},{level}\n" for name, level in levels.items()).encode()
+
+
+def labels_input(seed):
+    """A whole input of the program `labels`: a scheme, a level sheet, and a site program."""
+    r = random.Random(seed)
+    line, count = scheme(r)
+    sheet = upward_sheet(r, count) if r.random() < 0.6 else level_sheet(r, count)
+    rows = program(r)
+    if r.random() < 0.1:
+        part = r.randrange(3)
+        line, sheet, rows = (damaged(r, text) if part == n else text for n, text in enumerate((line, sheet, rows)))
+    return line + b"-\n" + sheet + b"-\n" + rows

@@ -96,6 +96,13 @@ def site_programs():
         yield name, "react", text(program) + b"-\n" + fed, wanted.replace("/", "\n").encode() if bar else answer(1, wanted)
 
 
+def labels():
+    for name, given, wanted in read_table("labels.txt"):
+        scheme, sheet, program = (text(part) for part in given.split("|"))
+        answer = wanted if wanted.startswith("R") else "L,pass" if wanted == "pass" else f"L,leak,{wanted}"
+        yield name, "labels", scheme + b"\n-\n" + sheet + b"-\n" + program, answer.encode() + b"\n"
+
+
 def ticket_bytes(channel, value):
     return bytes([channel, 73]) + value.to_bytes(4, "big") + bytes(2)
 
@@ -115,7 +122,7 @@ def difference(program, given, wanted):
 
 def main():
     passed = failed = 0
-    for cases in (batches, level_sheets, switch_sheets, site_programs):
+    for cases in (batches, level_sheets, switch_sheets, site_programs, labels):
         for name, program, given, wanted in cases():
             wrong = difference(program, given, wanted)
             if wrong:

@@ -1,7 +1,8 @@
 """What the programs print, from their input's bytes."""
+from .labels import check
 from .levels import join, lowest, read_scheme, read_sheet
 from .machines import read_program, read_switch
-from .texts import CHANNEL, FIELD, RECORD, Fault
+from .texts import CHANNEL, FIELD, LEAK, RECORD, Fault
 
 
 def parts(text):
@@ -93,3 +94,20 @@ def report_react(data):
     if len(batch) % 8:
         return refusal(2, Fault(RECORD))
     return report_reactions(machine, batch)
+
+
+def report_labels(data):
+    line, rest = parts(data)
+    text, rows = parts(rest) if rest is not None else (None, None)
+    if rows is None or line.count(b"\n") != 1:
+        return refusal(0, Fault(FIELD))
+    part = 1
+    try:
+        scheme = read_scheme(line)
+        part = 2
+        sheet = read_sheet(text, scheme)
+        part = 3
+        check(read_program(rows), scheme, sheet)
+    except Fault as fault:
+        return f"L,leak,{fault.line}\n" if fault.number == LEAK else refusal(part, fault)
+    return "L,pass\n"

@@ -19,6 +19,9 @@ keyword-text keyword.Turn = codes "T"
 keyword-text keyword.Ended = codes "ended"
 keyword-text keyword.Stalled = codes "stalled"
 keyword-text keyword.Refused = codes "refused"
+keyword-text keyword.Labels = codes "L"
+keyword-text keyword.Pass = codes "pass"
+keyword-text keyword.Leak = codes "leak"
 
 abbrev pub entry-text : Entry → List ℕ
 entry-text (Word w) = keyword-text w

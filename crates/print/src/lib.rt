@@ -19,6 +19,9 @@ pub enum Keyword {
     Ended,
     Stalled,
     Refused,
+    Labels,
+    Pass,
+    Leak,
 }
 
 impl Keyword {
@@ -34,6 +37,9 @@ impl Keyword {
             Keyword::Ended => b"ended",
             Keyword::Stalled => b"stalled",
             Keyword::Refused => b"refused",
+            Keyword::Labels => b"L",
+            Keyword::Pass => b"pass",
+            Keyword::Leak => b"leak",
         }
     }
 }

@@ -9,7 +9,7 @@ use Rattle.program.specs.Laws.{flat}
 use Rattle.program.specs.Reading.{reading, enough}
 use Rattle.program.proofs.Programs.{reading-inverts-writing, flat-form-tells-the-program}
 use Rattle.react_report.specs.Report.{fed-lines, program-lines, program-report}
-use Rattle.react_report.proofs.Programs.{enough-left}
+use Rattle.loader.proofs.Holding.{enough-left}
 use Rattle.react_report.proofs.program.report_program.Needs as need
 
 pub returns : need.returns

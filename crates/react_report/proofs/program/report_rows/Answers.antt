@@ -4,7 +4,7 @@ use Rattle.language.specs.Block.{Tree}
 use Rattle.language.specs.Step.{reaction}
 use Rattle.print.specs.Appending.{Appends}
 use Rattle.react_report.specs.Report.{fed-lines}
-use Rattle.react_report.proofs.Programs.{loaded-is-held}
+use Rattle.loader.proofs.Holding.{loaded-is-held}
 use Rattle.react_report.proofs.program.report_rows.Needs as need
 
 pub returns : need.returns

@@ -1,4 +1,4 @@
--- Tables hold one program, and a loader that was given them has it. Assumes nothing.
+-- Tables hold one program, and a machine that was given them has it. Assumes nothing.
 use mathlib.Core.Bool.{true}
 use mathlib.Core.List.{List}
 use mathlib.Core.Path.{_≡_, refl, sym, ap, _∙_}
@@ -21,8 +21,8 @@ use Rattle.program.specs.Trees.{tree-of}
 use Rattle.program.specs.Writing.{flat-rows, flat-terms, Within}
 use Rattle.program.proofs.Programs.{flat-form-tells-the-program}
 use Rattle.flat_form.proofs.Loads.{held-has-extents}
 use Rattle.loader.specs.declared.loaded.Program.{Program}
-use Rattle.loader.specs.Loading.{program-in, Accepts}
+use Rattle.loader.specs.Loading.{rows-of, terms-of, program-in, Accepts}
 
 same-front : {X : Type 0} (blank : X) (xs ys l : List X) → l ≡ padded blank (length l) xs → l ≡ padded blank (length l) ys → length xs ≡ length ys → xs ≡ ys
 same-front blank xs ys l h g same =
@@ -47,6 +47,12 @@ same-program p q rows terms v w g h =
 pub loaded-is-held : (p : Tree) (rows : List Row) (terms : List Term) (r : Result (Unit {0}) Fault) (m : Program) → Accepts rows terms r m → enough rows terms ≡ true → Within p → Hold p rows terms → program-in m ≡ p
 loaded-is-held p rows terms (Ok u) m a e w h = same-program (program-in m) p rows terms (a .0) w (a .1) h
 loaded-is-held p rows terms (Err f) m a e w h = absurd (a e p w h)
+
+pub loaded-tables : (p : Tree) (rows : List Row) (terms : List Term) (r : Result (Unit {0}) Fault) (m : Program) → Accepts rows terms r m → enough rows terms ≡ true → Within p → Hold p rows terms → (rows-of m ≡ flat-rows p) × (terms-of m ≡ flat-terms p)
+loaded-tables p rows terms (Ok u) m a e w h =
+    let is = same-program (program-in m) p rows terms (a .0) w (a .1) h in
+    (a .2 ∙ ap flat-rows is, a .3 ∙ ap flat-terms is)
+loaded-tables p rows terms (Err f) m a e w h = absurd (a e p w h)
 
 long-enough : {X : Type 0} (n : ℕ) (blank : X) (xs : List X) → n ≤ length (padded blank n xs)
 long-enough n blank xs = omega (arith, length-append xs (replicate (n - length xs) blank), length-replicate (n - length xs) blank)
