@@ -10,7 +10,7 @@ returns-then-not-is-printable c =
     (c.loop-byte.invariant ∙ byte_here c.args.line.now c.loop-byte.byte-index false c.loop-byte-test.true (sym c.if-not-is-printable.ensures))
 
 pub loop-byte-preserved : goal.loop-byte-preserved
-loop-byte-preserved c = c.loop-byte.invariant ∙ byte_here c.args.line.now c.loop-byte.byte-index true c.loop-byte-test.true (sym c.if-not-is-printable.ensures)
+loop-byte-preserved c = c.loop-byte.invariant ∙ byte_here c.args.line.now c.loop-byte.byte-index true c.loop-byte-test.true (sym c.if-not-is_printable.ensures)
 
 pub returns : goal.returns
 returns c =

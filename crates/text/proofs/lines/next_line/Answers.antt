@@ -15,4 +15,4 @@ returns-in-default c =
 pub returns : goal.returns
 returns c =
     let q = line_and_rest c.args.left.now c.cut.result.0.now c.cut.result.1 c.cut.ensures c.in-Some.rest c.in-Some.is in
-    record { cut = q; clean = sym c.if-not-is-clean.ensures; shorter = shorter 10 c.args.left.now c.cut.result.0.now c.in-Some.rest.now q }
+    record { cut = q; clean = sym c.if-not-is_clean.ensures; shorter = shorter 10 c.args.left.now c.cut.result.0.now c.in-Some.rest.now q }

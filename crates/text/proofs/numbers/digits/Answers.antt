@@ -11,11 +11,11 @@ returns-then-not-is-digit c =
 
 pub returns-then-more-high : goal.returns-then-more-high
 returns-then-more-high c =
-    record { most = tt; value = sym (c.loop-byte.invariant.1 ∙ too_large_here c.args.high c.loop-byte.n c.args.bytes.now c.loop-byte.byte-index (omega arith) (sym c.if-not-is-digit.ensures) (omega arith)) }
+    record { most = tt; value = sym (c.loop-byte.invariant.1 ∙ too_large_here c.args.high c.loop-byte.n c.args.bytes.now c.loop-byte.byte-index (omega arith) (sym c.if-not-is_digit.ensures) (omega arith)) }
 
 pub loop-byte-preserved : goal.loop-byte-preserved
 loop-byte-preserved c =
-    (omega arith, c.loop-byte.invariant.1 ∙ digit_here c.args.high c.loop-byte.n c.args.bytes.now c.loop-byte.byte-index (omega arith) (sym c.if-not-is-digit.ensures))
+    (omega arith, c.loop-byte.invariant.1 ∙ digit_here c.args.high c.loop-byte.n c.args.bytes.now c.loop-byte.byte-index (omega arith) (sym c.if-not-is_digit.ensures))
 
 pub returns : goal.returns
 returns c =
