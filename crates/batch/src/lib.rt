@@ -1,4 +1,6 @@
 // The level of a batch of tickets: the join of the levels of their channels.
+#![tactic(auto)]
+
 ghost use Rattle.std.specs.Prelude.{◌≡◌, true};
 ghost use Rattle.sheet.specs.Sheets.{has_sheet};
 ghost use Rattle.batch.specs.Level.{join_tickets, batch_level, Levelled};

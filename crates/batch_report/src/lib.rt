@@ -1,4 +1,6 @@
 // The report on a batch of tickets, under a scheme and a level sheet that are texts.
+#![tactic(auto)]
+
 ghost use Rattle.print.specs.Appending.{Appends};
 ghost use Rattle.scheme_reader.specs.Reading.{levels_of, size_of};
 ghost use Rattle.batch_report.specs.Report.{under, not_in_parts, report};

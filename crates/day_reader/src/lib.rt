@@ -1,4 +1,6 @@
 // A day's hand-ins: its lines, and the reader of its text into the records that a hand-in carries.
+#![tactic(auto)]
+
 mod error;
 mod hand_in;
 mod reader;

@@ -1,4 +1,6 @@
 // Worked examples: one list with one proof, and the same values run.
+#![tactic(auto)]
+
 ghost use Rattle.examples.specs.Examples.{Examples};
 
 // A theorem: the definitions give what the worked examples say.

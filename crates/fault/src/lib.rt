@@ -1,4 +1,6 @@
 // A refusal: its reason, and the line and field of a text where it was found.
+#![tactic(auto)]
+
 ghost use Rattle.std.specs.Prelude.{◌≡◌};
 ghost use Rattle.fault.specs.Faults.{number_of, unplaced};
 

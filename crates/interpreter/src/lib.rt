@@ -1,4 +1,6 @@
 // Runs site programs: what becomes of a ticket, row by row, within an allowance of steps.
+#![tactic(auto)]
+
 ghost use Rattle.std.specs.Prelude.{◌≡◌};
 ghost use Rattle.language.specs.Step.{reaction};
 ghost use Rattle.machine.specs.Reacting.{Reacts};

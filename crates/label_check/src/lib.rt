@@ -1,4 +1,6 @@
 // The label check: whether a loaded program keeps the label rule, in any scheme of levels.
+#![tactic(auto)]
+
 ghost use Rattle.std.specs.Prelude.{◌≡◌};
 ghost use Rattle.loader.specs.Loading.{rows_of, terms_of, program_in};
 ghost use Rattle.label_check.specs.Checked.{checked, Exact};

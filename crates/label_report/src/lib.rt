@@ -1,4 +1,6 @@
 // The report on the labels of a site program, under a scheme and a level sheet that are texts.
+#![tactic(auto)]
+
 ghost use Rattle.print.specs.Appending.{Appends};
 ghost use Rattle.scheme_reader.specs.Reading.{levels_of, size_of};
 ghost use Rattle.label_report.specs.Report.{under, not_in_parts, report};

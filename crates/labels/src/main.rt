@@ -1,4 +1,6 @@
 // Checks a site program against the label rule: reads a scheme, a level sheet and the program, and prints the answer.
+#![tactic(auto)]
+
 use label_report::report_labels;
 use std::io;
 use std::io::{Read, Write};

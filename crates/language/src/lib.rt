@@ -1,4 +1,6 @@
 // The language of site programs: its operators. Its trees and their run are definitions in specs/.
+#![tactic(auto)]
+
 ghost use Rattle.std.specs.Prelude.{◌≡◌};
 ghost use Rattle.language.specs.Laws.{RunIsIteratedStep, StallsOnlyWhenSpent};
 ghost use Rattle.language.specs.Operators.{rounded, applied, Rounds};

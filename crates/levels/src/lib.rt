@@ -1,4 +1,6 @@
 // Schemes of levels: the trait with its laws, and three schemes.
+#![tactic(auto)]
+
 mod chain;
 mod pair;
 mod parties;

@@ -1,4 +1,6 @@
 // A batch of tickets as lines to print.
+#![tactic(auto)]
+
 ghost use Rattle.std.specs.Prelude.{◌≡◌};
 ghost use Rattle.print.specs.Appending.{Appends};
 ghost use Rattle.ticket.specs.Tickets.{decoded};

@@ -1,4 +1,6 @@
 // The loader: filled tables are taken for a program where they hold the flat form of one.
+#![tactic(auto)]
+
 mod loaded;
 
 pub use loaded::Program;

@@ -1,4 +1,6 @@
 // Reactive machines: fed one in-ticket, a machine makes out-tickets and keeps its state in words.
+#![tactic(auto)]
+
 ghost use Rattle.machine.specs.Meaning.{Meaning, Lawful};
 ghost use Rattle.machine.specs.Reacting.{Reacts};
 

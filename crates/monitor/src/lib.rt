@@ -1,4 +1,6 @@
 // The monitor between a machine and its channels: beside the bare run it keeps a shadow run for each level.
+#![tactic(auto)]
+
 mod monitoring;
 mod slips;
 

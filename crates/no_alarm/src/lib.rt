@@ -1,4 +1,6 @@
 // What the label rule is good for in a monitor: its definitions are in specs/.
+#![tactic(auto)]
+
 ghost use Rattle.no_alarm.specs.Laws.{TypedProgramsNeverAlarm, PassedProgramsNeverAlarm, MachinesOfTypedProgramsNeverAlarm};
 
 // A program that is typed never makes a monitor alarm.

@@ -1,4 +1,6 @@
 // A text in parts, between lines that are `-` alone.
+#![tactic(auto)]
+
 ghost use Rattle.std.specs.Prelude.{◌≡◌, true};
 ghost use Rattle.parts.specs.Parts.{is_mark, before_mark, after_mark, bytes_if_any, Cuts, is_one_line};
 

@@ -1,4 +1,6 @@
 // Lines of words and numbers, appended to a growing list of bytes.
+#![tactic(auto)]
+
 ghost use Rattle.std.specs.Prelude.{◌≡◌, [], ◌∷◌, codes, decimal};
 ghost use Rattle.print.specs.Appending.{Appends};
 ghost use Rattle.print.specs.Lines.{keyword_text, entry_text, rest_text, line_text, fault_line};

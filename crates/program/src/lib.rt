@@ -1,4 +1,6 @@
 // The flat form of a site program, and the reader of its text.
+#![tactic(auto)]
+
 mod add;
 mod laws;
 mod line;

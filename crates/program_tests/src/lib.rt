@@ -1,4 +1,6 @@
 // Tests of site programs at what no program's input reaches: other allowances, and what is lent.
+#![tactic(auto)]
+
 #[cfg(test)]
 mod tests {
     use fault::{Fault, Reason};

@@ -1,4 +1,6 @@
 // Feeds a switch sheet with in-tickets: reads the sheet, a line `-` and the tickets, and prints what each is answered by.
+#![tactic(auto)]
+
 use react_report::report_react;
 use std::io;
 use std::io::{Read, Write};

@@ -1,4 +1,6 @@
 // The report on a machine that is fed in-tickets.
+#![tactic(auto)]
+
 ghost use Rattle.std.specs.Prelude.{◌≡◌};
 ghost use Rattle.print.specs.Appending.{Appends};
 ghost use Rattle.react_report.specs.Report.{is_switch_sheet, report};

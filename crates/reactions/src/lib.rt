@@ -1,4 +1,6 @@
 // A machine fed one ticket after another, as lines to print.
+#![tactic(auto)]
+
 ghost use Rattle.std.specs.Prelude.{◌≡◌};
 ghost use Rattle.std.specs.List.{flat_map};
 ghost use Rattle.print.specs.Appending.{Appends};

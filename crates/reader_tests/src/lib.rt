@@ -1,4 +1,6 @@
 // Tests of the readers that no program's input reaches: a last line without its line feed, and what is lent.
+#![tactic(auto)]
+
 #[cfg(test)]
 mod tests {
     use fault::{Fault, Reason};

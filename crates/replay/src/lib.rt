@@ -1,4 +1,6 @@
 // A whole list of calls on a newly opened monitor, with everything that is promised of it.
+#![tactic(auto)]
+
 ghost use Rattle.std.specs.Prelude.{◌+◌, ◌≤◌, [], length, vec_len, vec_capacity};
 ghost use Rattle.monitor.specs.Following.{Follows};
 ghost use Rattle.monitor.specs.Parts.{machine_of, scheme_of};

@@ -1,4 +1,6 @@
 // Runs of a machine over a list of calls, what a monitor makes of them, and what it promises.
+#![tactic(auto)]
+
 ghost use Rattle.runs.specs.Setting.{Setting};
 ghost use Rattle.runs.specs.Promises.{AgreeingListsReleasePrefixes, AlarmsExactlyAtTheFirstClash, AllIsReleasedUntilThen};
 ghost use Rattle.runs.specs.Laws.{AShadowIsTheBareRunOfWhatItsLevelSees, AnAlarmExplainsTheLeastClash, AStallNamesTheFirstRun};

@@ -1,4 +1,6 @@
 // The reader of a scheme: a text of one line, `chain,n` or `parties,n`.
+#![tactic(auto)]
+
 ghost use Rattle.std.specs.Prelude.{◌≡◌};
 ghost use Rattle.std.specs.Str.{bytes_eq};
 ghost use Rattle.text.specs.Pieces.{pieces, pieces_left};

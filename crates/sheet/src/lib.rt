@@ -1,4 +1,6 @@
 // The levels of channels and variables.
+#![tactic(auto)]
+
 ghost use Rattle.std.specs.Prelude.{◌≡◌};
 ghost use Rattle.sheet.specs.Sheets.{uniform, channel_level, each_below, checked};
 

@@ -1,4 +1,6 @@
 // The reader of a level sheet: its lines, and the levels that they give.
+#![tactic(auto)]
+
 mod line;
 mod reader;
 

@@ -1,4 +1,6 @@
 // The switch sheet: its lines, and the reader of its text.
+#![tactic(auto)]
+
 mod line;
 mod reader;
 

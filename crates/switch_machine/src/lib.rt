@@ -1,4 +1,6 @@
 // The switch sheet as a reactive machine.
+#![tactic(auto)]
+
 mod switch;
 
 pub use switch::Switch;

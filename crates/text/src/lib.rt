@@ -1,4 +1,6 @@
 // What every reader of a text shares: classes of bytes, lines, fields, decimal numbers, and refusals with their place.
+#![tactic(auto)]
+
 mod classes;
 mod field;
 mod fields;

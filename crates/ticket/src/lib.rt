@@ -1,4 +1,6 @@
 // A ticket, and the eight bytes that carry it.
+#![tactic(auto)]
+
 ghost use Rattle.std.specs.Prelude.{◌≡◌, ◌<◌, Ok};
 ghost use Rattle.ticket.specs.Tickets.{is_in, encoded, decoded, decoded_in, Decodes};
 

@@ -1,4 +1,6 @@
 // Lists a batch of tickets: reads a scheme, a level sheet and the tickets, parted by lines `-`, and prints each ticket and the level of them all.
+#![tactic(auto)]
+
 use batch_report::report_batch;
 use std::io;
 use std::io::{Read, Write};

@@ -1,4 +1,6 @@
 // What a level sees of tickets, and what it finds between the bare run and its shadow.
+#![tactic(auto)]
+
 mod comparing;
 mod finding;
 mod sight;
