@@ -4,7 +4,7 @@ use Rattle.std.specs.List.{AllByRecursion as All}
 use Rattle.fault.specs.declared.Fault.{Fault}
 use Rattle.fault.specs.Faults.{then}
 use Rattle.levels.specs.Scheme.{Levels, Below, Lattice}
-use Rattle.levels.proofs.Lattices.{lowest_level, join_level}
+use Rattle.levels.specs.Lattices.{lowest_level, join_level}
 use Rattle.sheet.specs.declared.LevelSheet.{LevelSheet}
 use Rattle.sheet.specs.Sheets.{channel_level, has_sheet, checked}
 use Rattle.sheet.proofs.Each.{channel_level_below}

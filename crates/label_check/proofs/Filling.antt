@@ -3,7 +3,7 @@ use Rattle.std.proofs.Common.{◌≡◌, ℕ, ◌+◌, ◌<◌, ◌≤◌, ◌�
 use lib.ListN.{get_or-replicate}
 use Rattle.std.proofs.lemmas.Bool.{cases_eq}
 use Rattle.levels.specs.Scheme.{Levels, Lattice}
-use Rattle.levels.proofs.Lattices.{join_level}
+use Rattle.levels.specs.Lattices.{join_level}
 use Rattle.label_check.specs.Tables.{entry, Filled}
 
 pub filled_none : (L : Levels) → Filled L (replicate 16 (replicate 16 0)) 0 0

@@ -3,7 +3,7 @@ use Rattle.std.proofs.Common.{◌≡◌, ℕ, ◌+◌, ◌<◌, Bool, true, fals
 use Rattle.std.proofs.lemmas.Bool.{eq-eqb, eqb-true}
 use Rattle.language.specs.Expression.{Expr, input, constant, variable, binary}
 use Rattle.levels.specs.Scheme.{Levels, Lattice}
-use Rattle.levels.proofs.Lattices.{lowest_level, join_level}
+use Rattle.levels.specs.Lattices.{lowest_level, join_level}
 use Rattle.sheet.specs.Sheets.{channel_level, has_sheet}
 use Rattle.program.specs.declared.rows.Kind.{Kind}
 use Rattle.program.specs.declared.rows.Kind.TheVariants as kind

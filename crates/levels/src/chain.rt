@@ -3,7 +3,7 @@ ghost use Rattle.std.specs.Prelude.{◌≡◌, ◌≤◌};
 ghost use Rattle.fault.specs.declared.Reason.TheVariants as reason;
 ghost use Rattle.fault.specs.Faults.{Accepts};
 ghost use Rattle.levels.specs.Chain.{chain, is_chain};
-ghost use Rattle.std.proofs.Common.{rules, arith};
+ghost use Rattle.levels.specs.Products.{chain_lawful};
 
 use super::Scheme;
 use fault::{Fault, Reason};
@@ -29,21 +29,21 @@ impl Chain {
 impl Scheme for Chain {
     ghost levels = { λ s. chain s.count };
 
-    ghost sized = { first_of (Prim.search rules, Prim.grind (arith, Self.row.coded.inj)) };
+    ghost sized = { λ s. (chain_lawful s.count s.sized.0 s.sized.1).sized };
 
-    ghost proper = { first_of (Prim.search rules, Prim.grind (arith, Self.row.coded.inj)) };
+    ghost proper = { λ s. (chain_lawful s.count s.sized.0 s.sized.1).proper };
 
-    ghost reflexive = { first_of (Prim.search rules, Prim.grind (arith, Self.row.coded.inj)) };
+    ghost reflexive = { λ s. (chain_lawful s.count s.sized.0 s.sized.1).reflexive };
 
-    ghost antisymmetric = { first_of (Prim.search rules, Prim.grind (arith, Self.row.coded.inj)) };
+    ghost antisymmetric = { λ s. (chain_lawful s.count s.sized.0 s.sized.1).antisymmetric };
 
-    ghost transitive = { first_of (Prim.search rules, Prim.grind (arith, Self.row.coded.inj)) };
+    ghost transitive = { λ s. (chain_lawful s.count s.sized.0 s.sized.1).transitive };
 
-    ghost bottom = { first_of (Prim.search rules, Prim.grind (arith, Self.row.coded.inj)) };
+    ghost bottom = { λ s. (chain_lawful s.count s.sized.0 s.sized.1).bottom };
 
-    ghost joins = { first_of (Prim.search rules, Prim.grind (arith, Self.row.coded.inj)) };
+    ghost joins = { λ s. (chain_lawful s.count s.sized.0 s.sized.1).joins };
 
-    ghost lattice = { first_of (Prim.search rules, Prim.grind (arith, Self.row.coded.inj)) };
+    ghost lattice = { λ s. chain_lawful s.count s.sized.0 s.sized.1 };
 
     fn count(&self) -> u8 {
         self.count

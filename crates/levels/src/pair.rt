@@ -3,6 +3,7 @@ ghost use Rattle.std.specs.Prelude.{◌≡◌, ◌+◌, ◌*◌, ◌<◌, true};
 ghost use Rattle.fault.specs.declared.Reason.TheVariants as reason;
 ghost use Rattle.fault.specs.Faults.{Accepts};
 ghost use Rattle.levels.specs.Pair.{pair, is_pair};
+ghost use Rattle.levels.specs.Products.{pair_lawful};
 
 use super::Scheme;
 use fault::{Fault, Reason};
@@ -44,6 +45,22 @@ impl<P: Scheme, Q: Scheme> Pair<P, Q> {
 
 impl<P: Scheme, Q: Scheme> Scheme for Pair<P, Q> {
     ghost levels = { λ s. pair (P.Scheme.levels s.left) (Q.Scheme.levels s.right) };
+
+    ghost sized = { λ s. (pair_lawful (P.Scheme.lattice s.left) (Q.Scheme.lattice s.right)).sized };
+
+    ghost proper = { λ s. (pair_lawful (P.Scheme.lattice s.left) (Q.Scheme.lattice s.right)).proper };
+
+    ghost reflexive = { λ s. (pair_lawful (P.Scheme.lattice s.left) (Q.Scheme.lattice s.right)).reflexive };
+
+    ghost antisymmetric = { λ s. (pair_lawful (P.Scheme.lattice s.left) (Q.Scheme.lattice s.right)).antisymmetric };
+
+    ghost transitive = { λ s. (pair_lawful (P.Scheme.lattice s.left) (Q.Scheme.lattice s.right)).transitive };
+
+    ghost bottom = { λ s. (pair_lawful (P.Scheme.lattice s.left) (Q.Scheme.lattice s.right)).bottom };
+
+    ghost joins = { λ s. (pair_lawful (P.Scheme.lattice s.left) (Q.Scheme.lattice s.right)).joins };
+
+    ghost lattice = { λ s. pair_lawful (P.Scheme.lattice s.left) (Q.Scheme.lattice s.right) };
 
     fn count(&self) -> u8 {
         if self.is_small() {

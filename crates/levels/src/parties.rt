@@ -3,6 +3,7 @@ ghost use Rattle.std.specs.Prelude.{◌≡◌, ◌≤◌};
 ghost use Rattle.fault.specs.declared.Reason.TheVariants as reason;
 ghost use Rattle.fault.specs.Faults.{Accepts};
 ghost use Rattle.levels.specs.Parties.{parties, is_parties};
+ghost use Rattle.levels.specs.Subsets.{parties_lawful};
 
 use super::Scheme;
 use fault::{Fault, Reason};
@@ -27,6 +28,22 @@ impl Parties {
 
 impl Scheme for Parties {
     ghost levels = { λ s. parties s.number };
+
+    ghost sized = { λ s. (parties_lawful s.number s.few).sized };
+
+    ghost proper = { λ s. (parties_lawful s.number s.few).proper };
+
+    ghost reflexive = { λ s. (parties_lawful s.number s.few).reflexive };
+
+    ghost antisymmetric = { λ s. (parties_lawful s.number s.few).antisymmetric };
+
+    ghost transitive = { λ s. (parties_lawful s.number s.few).transitive };
+
+    ghost bottom = { λ s. (parties_lawful s.number s.few).bottom };
+
+    ghost joins = { λ s. (parties_lawful s.number s.few).joins };
+
+    ghost lattice = { λ s. parties_lawful s.number s.few };
 
     fn count(&self) -> u8 {
         1 << self.number

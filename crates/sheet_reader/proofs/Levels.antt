@@ -4,7 +4,7 @@ use Rattle.std.proofs.lemmas.List.{length-set, length-replicate, get_or-set_same
 use Rattle.std.proofs.lemmas.Bool.{and_parts, and_from, lt-ltb}
 use Rattle.std.specs.List.{AllByRecursion as All}
 use Rattle.levels.specs.Scheme.{Levels, Lattice}
-use Rattle.levels.proofs.Lattices.{lowest_level}
+use Rattle.levels.specs.Lattices.{lowest_level}
 use Rattle.sheet.specs.declared.LevelSheet.{LevelSheet}
 use Rattle.sheet.specs.Sheets.{uniform, each_below, has_sheet}
 use Rattle.sheet_reader.specs.declared.line.Name.{Name}

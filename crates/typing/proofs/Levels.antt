@@ -2,7 +2,7 @@
 use Rattle.std.proofs.Common.{◌≡◌, ℕ, ◌<◌, true}
 use Rattle.std.proofs.lemmas.Bool.{and_parts}
 use Rattle.levels.specs.Scheme.{Levels, Least, Lattice}
-use Rattle.levels.proofs.Lattices.{lowest_level, join_level}
+use Rattle.levels.specs.Lattices.{lowest_level, join_level}
 use Rattle.sheet.specs.declared.LevelSheet.{LevelSheet}
 use Rattle.sheet.specs.Sheets.{each_below, has_sheet}
 use Rattle.sheet.proofs.Each.{each_below_at, channel_level_below}

@@ -2,7 +2,7 @@ use Rattle.std.proofs.Common.{◌≡◌, ◌<◌, length, Err, unwrap_or, sym, r
 use Rattle.std.specs.Slice.Iter.{chunks_exact_rest}
 use Rattle.std.proofs.lemmas.Result.{err_from_is_err_and}
 use Rattle.levels.specs.Scheme.{join_of}
-use Rattle.levels.proofs.Lattices.{lowest_level, join_level, join_some}
+use Rattle.levels.specs.Lattices.{lowest_level, join_level, join_some}
 use Rattle.sheet.specs.Sheets.{channel_level}
 use Rattle.sheet.proofs.Each.{channel_level_below}
 use Rattle.batch.specs.Level.{join_tickets}

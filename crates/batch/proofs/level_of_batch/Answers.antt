@@ -7,10 +7,10 @@ use Rattle.batch.proofs.level_of_batch.Goals as goal
 pub returns-then-bytes-ne0 : goal.returns-then-bytes-ne0
 returns-then-bytes-ne0 g c =
     let laws = g.met.S.Scheme.lattice c.args.scheme.now in
-    record { value = search rules; least = λ has. levelled laws c.args.sheet.now has c.args.bytes.now (λ i. (c.type-inv.bytes i).fits) (Err (unplaced reason.Record)) (search rules) has }
+    record { value = search rules; least = λ has. levelled laws c.args.sheet.now has c.args.bytes.now (λ i. (c.type_inv.bytes i).fits) (Err (unplaced reason.Record)) (search rules) has }
 
 pub returns : goal.returns
 returns g c =
     let laws = g.met.S.Scheme.lattice c.args.scheme.now in
     let has = checked_has (g.S.Scheme.levels c.args.scheme.now) c.args.sheet.now c.in-ok-check.ensures in
-    record { value = search rules; least = levelled laws c.args.sheet.now has c.args.bytes.now (λ i. (c.type-inv.bytes i).fits) _ (search rules) }
+    record { value = search rules; least = levelled laws c.args.sheet.now has c.args.bytes.now (λ i. (c.type_inv.bytes i).fits) _ (search rules) }

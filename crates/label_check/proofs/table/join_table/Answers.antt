@@ -1,5 +1,5 @@
 use Rattle.std.proofs.Common.{◌<◌, sym, arith}
-use Rattle.levels.proofs.Lattices.{some_join, never_none}
+use Rattle.levels.specs.Lattices.{some_join, never_none}
 use Rattle.label_check.proofs.Filling.{filled_none, filled_put, filled_row}
 use Rattle.label_check.proofs.table.join_table.Goals as goal
 use Rattle.label_check.proofs.table.join_table.Goals.{in-Some, in-default}

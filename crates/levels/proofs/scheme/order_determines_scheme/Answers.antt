@@ -1,4 +1,4 @@
-use Rattle.levels.proofs.Lattices.{order_determines_scheme}
+use Rattle.levels.specs.Lattices.{order_determines_scheme}
 use Rattle.levels.proofs.scheme.order_determines_scheme.Goals as goal
 
 pub returns : goal.returns

@@ -7,7 +7,7 @@ use Rattle.std.proofs.lemmas.Bool.{and_parts, and_from, cond_both, leb-true, lt-
 use Rattle.levels.specs.Scheme.{Levels, Below, Sized, Proper, Reflexive, Antisymmetric, Transitive, Bottom, Least, Joins, Lattice, join_of}
 use Rattle.levels.specs.Chain.{chain}
 use Rattle.levels.specs.Pair.{product, is_pair, pair}
-use Rattle.levels.proofs.Lattices.{lowest_level, join_level, join_some, some_join, cond_none}
+use Rattle.levels.specs.Lattices.{lowest_level, join_level, join_some, some_join, cond_none}
 
 pub chain_lawful : (n : ℕ) → 1 ≤ n → n ≤ 16 → Lattice (chain n)
 chain_lawful n lo hi = record {

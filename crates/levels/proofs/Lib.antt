@@ -1,3 +1,0 @@
-pub mod Lattices
-pub mod Products
-pub mod Subsets
