@@ -4,12 +4,12 @@ use Rattle.parts.specs.Parts.{is_mark}
 use Rattle.parts.proofs.Marks.{before_more, after_more, before_found, after_found, whole_found, before_all, after_all}
 use Rattle.parts.proofs.cut_part.Goals as goal
 
-pub returns-then-is-mark : goal.returns-then-is-mark
-returns-then-is-mark c =
+pub returns-then-is_mark : goal.returns-then-is_mark
+returns-then-is_mark c =
     let text = c.args.text.now in
     let i = c.loop-i.i in
     let lt = c.loop-i-test.true in
-    let mark : is_mark c.loop-i.start (drop i text) ≡ true = ap (is_mark c.loop-i.start) (sym (take_rest text i)) ∙ sym c.if-is-mark.ensures in
+    let mark : is_mark c.loop-i.start (drop i text) ≡ true = ap (is_mark c.loop-i.start) (sym (take_rest text i)) ∙ sym c.if-is_mark.ensures in
     let front : take (i - 0) text ≡ take i text = ap (λ n. take n text) (omega arith) in
     let back = take_rest text (i + 2) in
     record {
@@ -22,7 +22,7 @@ pub loop-i-preserved : goal.loop-i-preserved
 loop-i-preserved c =
     let text = c.args.text.now in
     let i = c.loop-i.i in
-    let no_mark : is_mark c.loop-i.start (drop i text) ≡ false = ap (is_mark c.loop-i.start) (sym (take_rest text i)) ∙ sym c.if-is-mark.ensures in
+    let no_mark : is_mark c.loop-i.start (drop i text) ≡ false = ap (is_mark c.loop-i.start) (sym (take_rest text i)) ∙ sym c.if-is_mark.ensures in
     (before_more text i c.loop-i.start c.loop-i-test.true no_mark c.loop-i.invariant.0, after_more text i c.loop-i.start c.loop-i-test.true no_mark c.loop-i.invariant.1)
 
 pub returns : goal.returns

@@ -17,17 +17,17 @@ loop-entry-preserved c =
     let es = c.args.entries.now in
     let i = c.loop-entry.entry-index in
     appended_more c.args.out.now _ _ (44 ∷ entry_text (get_or es i blank)) (rest_text (drop (i + 1) es)) (at_drop_more rest_text es i blank c.loop-entry-test.true)
-    c.loop-entry.out c.put-entry.new.out c.loop-entry.invariant tt c.in-ok-put-entry.ensures
+    c.loop-entry.out c.put_entry.new.out c.loop-entry.invariant tt c.in_ok-put_entry.ensures
 
-pub returns-in-err-put-entry : goal.returns-in-err-put-entry
+pub returns-in_err-put_entry : goal.returns-in_err-put_entry
 unfolding blank
-returns-in-err-put-entry c =
+returns-in_err-put_entry c =
     let es = c.args.entries.now in
     let i = c.loop-entry.entry-index in
     appended_short c.args.out.now _ _ (44 ∷ entry_text (get_or es i blank)) (rest_text (drop (i + 1) es)) (at_drop_more rest_text es i blank c.loop-entry-test.true)
-    c.loop-entry.out _ c.loop-entry.invariant c.in-err-put-entry.field-0.0 _ c.from-residual.ensures.0 c.in-err-put-entry.ensures
+    c.loop-entry.out _ c.loop-entry.invariant c.in_err-put_entry.field-0.0 _ c.from_residual.ensures.0 c.in_err-put_entry.ensures
 
 pub returns : goal.returns
 returns c =
     let last = rw (at_drop_all rest_text c.args.entries.now c.loop-entry.entry-index c.loop-entry-test.false) at c.loop-entry.invariant in
-    appended_all c.args.out.now _ _ c.loop-entry.out _ last _ c.put-bytes.ensures
+    appended_all c.args.out.now _ _ c.loop-entry.out _ last _ c.put_bytes.ensures
