@@ -12,8 +12,8 @@ use ticket::Ticket;
 
 // The least level at or above every ticket in the bytes, and the lowest level for none.
 pub fn level_of_batch<S: Scheme>(scheme: &S, sheet: &LevelSheet, bytes: &[u8]) -> Result<u8, Fault>
-    ensures value { result ≡ batch_level (levels scheme.now) sheet.now bytes.now }
-    ensures least { Levelled (levels scheme.now) sheet.now bytes.now result }
+    ensures value { result ≡ batch_level (S.levels scheme.now) sheet.now bytes.now }
+    ensures least { Levelled (S.levels scheme.now) sheet.now bytes.now result }
 {
     sheet.check(scheme)?;
     if bytes.len() % 8 != 0 {
@@ -23,8 +23,8 @@ pub fn level_of_batch<S: Scheme>(scheme: &S, sheet: &LevelSheet, bytes: &[u8]) -
 }
 
 fn join_tickets<S: Scheme>(scheme: &S, sheet: &LevelSheet, bytes: &[u8]) -> Result<u8, Fault>
-    requires { has_sheet (levels scheme.now) sheet.now ≡ true }
-    ensures { result ≡ join_tickets (levels scheme.now) sheet.now (levels scheme.now).lowest bytes.now }
+    requires { has_sheet (S.levels scheme.now) sheet.now ≡ true }
+    ensures { result ≡ join_tickets (S.levels scheme.now) sheet.now (S.levels scheme.now).lowest bytes.now }
 {
     let mut level = scheme.lowest();
     for record in bytes.chunks_exact(8) {

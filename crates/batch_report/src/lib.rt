@@ -62,7 +62,7 @@ fn report_under<S: Scheme>(
     text: &[u8],
     bytes: &[u8],
 ) -> Result<(), AllocError>
-    ensures { Appends out.old (under (levels scheme.now) text.now bytes.now) result out.new }
+    ensures { Appends out.old (under (S.levels scheme.now) text.now bytes.now) result out.new }
 {
     let mut sheet = LevelSheet::uniform(0);
     match read_sheet(text, scheme, &mut sheet) {

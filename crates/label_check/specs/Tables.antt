@@ -47,11 +47,11 @@ resume (Err at) go = Some at
 
 -- r tells of what is left of a block, from a row on: the first row that breaks the rule, or where the check goes on on the grounds around it, whatever they are
 abbrev pub ChecksBlock : Labels → List Row → List Term → ℕ → ℕ → ℕ → Result ℕ ℕ → Type 0
-ChecksBlock labels rows terms x ground from r = (gs : List ℕ) → onward labels rows terms x (ground ∷ gs) from ≡ resume r (onward labels rows terms x gs)
+ChecksBlock labels rows terms x surrounding from r = (gs : List ℕ) → onward labels rows terms x (surrounding ∷ gs) from ≡ resume r (onward labels rows terms x gs)
 
 -- and of a row, with the block that it opens
 abbrev pub ChecksRow : Labels → List Row → List Term → ℕ → ℕ → ℕ → Result ℕ ℕ → Type 0
-ChecksRow labels rows terms x ground at r = (gs : List ℕ) → onward labels rows terms x (ground ∷ gs) at ≡ resume r (onward labels rows terms x (ground ∷ gs))
+ChecksRow labels rows terms x surrounding at r = (gs : List ℕ) → onward labels rows terms x (surrounding ∷ gs) at ≡ resume r (onward labels rows terms x (surrounding ∷ gs))
 
 -- the check goes on no earlier than a row, and finds none behind the end
 abbrev pub Onward : ℕ → ℕ → Result ℕ ℕ → Type 0

@@ -21,8 +21,8 @@ pub fn check_labels<S: Scheme>(
     sheet: &LevelSheet,
     program: &Program<'_>,
 ) -> Result<(), Fault>
-    ensures value { result ≡ checked (levels scheme.now) sheet.now (rows_of program.now) (terms_of program.now) }
-    ensures exact { Exact (levels scheme.now) sheet.now (program_in program.now) result }
+    ensures value { result ≡ checked (S.levels scheme.now) sheet.now (rows_of program.now) (terms_of program.now) }
+    ensures exact { Exact (S.levels scheme.now) sheet.now (program_in program.now) result }
 {
     sheet.check(scheme)?;
     let table = Table {

@@ -17,21 +17,21 @@ fn check_block(
     terms: &[Term],
     from: usize,
     x: u8,
-    ground: u8,
+    surrounding: u8,
 ) -> Result<usize, usize>
     requires ready { Ready table.now }
     requires sound { Sound rows.now terms.now }
     requires within { from ≤ length rows.now }
     requires input { x < 16 }
-    requires ground { ground < 16 }
-    ensures leak { ChecksBlock (labels_in table.now) rows.now terms.now x ground from result }
+    requires surrounding { surrounding < 16 }
+    ensures leak { ChecksBlock (labels_in table.now) rows.now terms.now x surrounding from result }
     ensures place { Onward from (length rows.now) result }
 {
     let mut at = from;
     while at < rows.len() {
         match rows[at].kind {
             Kind::Close => return Ok(at + 1),
-            _ => at = check_row(table, rows, terms, at, x, ground)?,
+            _ => at = check_row(table, rows, terms, at, x, surrounding)?,
         }
     }
     Ok(at)
@@ -45,21 +45,21 @@ fn check_row(
     terms: &[Term],
     at: usize,
     x: u8,
-    ground: u8,
+    surrounding: u8,
 ) -> Result<usize, usize>
     requires ready { Ready table.now }
     requires sound { Sound rows.now terms.now }
     requires within { at < length rows.now }
     requires inside { (slice_index_or rows.now at blank_row).kind ≢ kind.Close }
     requires input { x < 16 }
-    requires ground { ground < 16 }
-    ensures leak { ChecksRow (labels_in table.now) rows.now terms.now x ground at result }
+    requires surrounding { surrounding < 16 }
+    ensures leak { ChecksRow (labels_in table.now) rows.now terms.now x surrounding at result }
     ensures place { Onward (at + 1) (length rows.now) result }
 {
     let row = rows[at];
     match row.kind {
         Kind::Assign(v) => {
-            let told = table.raised(terms, row, x, ground);
+            let told = table.raised(terms, row, x, surrounding);
             if table.at_or_below(told, table.sheet.variables[v as usize]) {
                 Ok(at + 1)
             } else {
@@ -67,7 +67,7 @@ fn check_row(
             }
         }
         Kind::Output(c) => {
-            let told = table.raised(terms, row, x, ground);
+            let told = table.raised(terms, row, x, surrounding);
             if table.at_or_below(told, table.sheet.channel_level(c)) {
                 Ok(at + 1)
             } else {
@@ -75,7 +75,7 @@ fn check_row(
             }
         }
         Kind::If | Kind::While => {
-            let inner = table.raised(terms, row, x, ground);
+            let inner = table.raised(terms, row, x, surrounding);
             check_block(table, rows, terms, at + 1, x, inner)
         }
         Kind::Skip | Kind::Handler(_) | Kind::Else | Kind::Close => Ok(at + 1),

@@ -65,24 +65,24 @@ impl Table {
     }
 
     // The join of a ground and the level of a row's expression, where the input has the level x.
-    pub fn raised(&self, terms: &[Term], row: Row, x: u8, ground: u8) -> u8
+    pub fn raised(&self, terms: &[Term], row: Row, x: u8, surrounding: u8) -> u8
         requires ready { Ready self.now }
         requires expressed { Expressed terms.now row }
         requires input { x < 16 }
-        requires ground { ground < 16 }
-        ensures value { result ≡ raised (labels_in self.now) x ground (expression_at terms.now row) }
+        requires surrounding { surrounding < 16 }
+        ensures value { result ≡ raised (labels_in self.now) x surrounding (expression_at terms.now row) }
         ensures small { result < 16 }
     {
         let first = row.first as usize;
         let end = first + row.count as usize;
         let (level, _) = self.level_from(&terms[first..end], 0, x);
-        self.join(ground, level)
+        self.join(surrounding, level)
     }
 }
 
 // The joins of all levels of a scheme.
 pub fn join_table<S: Scheme>(scheme: &S) -> [[u8; 16]; 16]
-    ensures { Filled (levels scheme.now) result (levels scheme.now).count 0 }
+    ensures { Filled (S.levels scheme.now) result (S.levels scheme.now).count 0 }
 {
     let mut joins = [[0; 16]; 16];
     let count = scheme.count() as usize;

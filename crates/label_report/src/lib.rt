@@ -5,9 +5,9 @@ ghost use Rattle.print.specs.Appending.{Appends};
 ghost use Rattle.scheme_reader.specs.Reading.{levels_of, size_of};
 ghost use Rattle.label_report.specs.Report.{under, not_in_parts, report};
 
-mod program;
+mod of_program;
 
-use crate::program::report_program;
+use crate::of_program::report_program;
 use fault::{Fault, Reason};
 use levels::Scheme;
 use parts::{cut_part, is_one_line};
@@ -64,7 +64,7 @@ fn report_under<S: Scheme>(
     text: &[u8],
     program: &[u8],
 ) -> Result<(), AllocError>
-    ensures { Appends out.old (under (levels scheme.now) text.now program.now) result out.new }
+    ensures { Appends out.old (under (S.levels scheme.now) text.now program.now) result out.new }
 {
     let mut sheet = LevelSheet::uniform(0);
     match read_sheet(text, scheme, &mut sheet) {

@@ -23,7 +23,7 @@ pub fn list_batch<S: Scheme>(
     sheet: &LevelSheet,
     bytes: &[u8],
 ) -> Result<(), AllocError>
-    ensures { Appends out.old (listing (levels scheme.now) sheet.now bytes.now) result out.new }
+    ensures { Appends out.old (listing (S.levels scheme.now) sheet.now bytes.now) result out.new }
 {
     match level_of_batch(scheme, sheet, bytes) {
         Ok(level) => {

@@ -68,16 +68,16 @@ impl<M: Machine, S: Scheme> Monitor<M, S> {
     // What the monitor is. Nothing alters.
     pub fn state(&self) -> State
         ensures held { result ≡ self.now.state }
-        ensures told { (before : List Call) → Follows meaning levels before self.now → Answer.State result ≡ answered (reply (setting meaning levels self.now) before ask_state) }
+        ensures told { (before : List Call) → Follows M.meaning S.levels before self.now → Answer.State result ≡ answered (reply (setting M.meaning S.levels self.now) before ask_state) }
     {
         self.state
     }
 
     // Opens the monitor anew, with all words 0. A refused opening closes it.
     pub fn open(&mut self, sheet: &LevelSheet, allowance: u32) -> Result<(), Fault>
-        ensures answer { result ≡ opening (levels self.old.scheme) sheet.now allowance }
+        ensures answer { result ≡ opening (S.levels self.old.scheme) sheet.now allowance }
         ensures held { self.new ≡ after_opening self.old sheet.now allowance result }
-        ensures follows { result ≡ Ok tt → Follows meaning levels [] self.new }
+        ensures follows { result ≡ Ok tt → Follows M.meaning S.levels [] self.new }
     {
         self.state = State::Closed;
         let Ok(allowance @ 1..) = u16::try_from(allowance) else {
@@ -96,7 +96,7 @@ impl<M: Machine, S: Scheme> Monitor<M, S> {
     pub fn hand_in(&mut self, bytes: &[u8], slip: &mut [Ticket]) -> Result<Release, Fault>
         ensures same { SameParts self.old self.new }
         ensures closed { self.old.state ≡ State.Closed → Halted (hand_in bytes.now slip.old) self.old self.new slip.new result }
-        ensures handed { (before : List Call) → Follows meaning levels before self.old → Handed meaning levels before (hand_in bytes.now slip.old) self.old self.new slip.new result }
+        ensures handed { (before : List Call) → Follows M.meaning S.levels before self.old → Handed M.meaning S.levels before (hand_in bytes.now slip.old) self.old self.new slip.new result }
     {
         let ticket = ticket_in(bytes, slip)?;
         let State::Running = self.state else {
@@ -110,9 +110,9 @@ impl<M: Machine, S: Scheme> Monitor<M, S> {
     // Feeds the bare run and the shadows, and compares them.
     fn turn(&mut self, ticket: Ticket, slip: &mut [Ticket]) -> Release
         requires { 16 ≤ length slip.old }
-        ensures held { self.new ≡ with_rows self.old (bare_of meaning levels self.old ticket).words (rows_after (shadow_of meaning levels self.old ticket) self.old.shadows (levels self.old.scheme).count) }
-        ensures slip { slip.new ≡ filled (take (findings_of meaning levels self.old ticket).matched (bare_of meaning levels self.old ticket).made) slip.old }
-        ensures release { result ≡ release_of (findings_of meaning levels self.old ticket) }
+        ensures held { self.new ≡ with_rows self.old (bare_of M.meaning S.levels self.old ticket).words (rows_after (shadow_of M.meaning S.levels self.old ticket) self.old.shadows (S.levels self.old.scheme).count) }
+        ensures slip { slip.new ≡ filled (take (findings_of M.meaning S.levels self.old ticket).matched (bare_of M.meaning S.levels self.old ticket).made) slip.old }
+        ensures release { result ≡ release_of (findings_of M.meaning S.levels self.old ticket) }
     {
         let mut words = self.bare;
         let mut made = [Ticket::BLANK; 16];
@@ -139,9 +139,9 @@ impl<M: Machine, S: Scheme> Monitor<M, S> {
     // Feeds the shadow of a level, and compares it with the bare run.
     fn level_turn(&mut self, level: u8, ticket: Ticket, bare: &Turn) -> Findings
         requires level { level < 16 }
-        requires bare { Ran (bare_of meaning levels self.old ticket) bare.now.reaction bare.now.words bare.now.slip }
-        ensures held { self.new ≡ with_rows self.old self.old.bare (slice_set self.old.shadows level (shadow_of meaning levels self.old ticket level).words) }
-        ensures found { result ≡ level_finding (setting meaning levels self.old) (bare_of meaning levels self.old ticket) level (shadow_of meaning levels self.old ticket level) }
+        requires bare { Ran (bare_of M.meaning S.levels self.old ticket) bare.now.reaction bare.now.words bare.now.slip }
+        ensures held { self.new ≡ with_rows self.old self.old.bare (slice_set self.old.shadows level (shadow_of M.meaning S.levels self.old ticket level).words) }
+        ensures found { result ≡ level_finding (setting M.meaning S.levels self.old) (bare_of M.meaning S.levels self.old ticket) level (shadow_of M.meaning S.levels self.old ticket level) }
     {
         let mut words = self.shadows[level as usize];
         let mut slip = [Ticket::BLANK; 16];
@@ -168,8 +168,8 @@ impl<M: Machine, S: Scheme> Monitor<M, S> {
         slip: &mut Slip,
     ) -> Reaction
         requires words { words.old ≡ slice_index_or self.now.shadows level [] }
-        requires bare { Ran (bare_of meaning levels self.now ticket) bare.now.reaction bare.now.words bare.now.slip }
-        ensures { Ran (shadow_of meaning levels self.now ticket level) result words.new slip.new }
+        requires bare { Ran (bare_of M.meaning S.levels self.now ticket) bare.now.reaction bare.now.words bare.now.slip }
+        ensures { Ran (shadow_of M.meaning S.levels self.now ticket level) result words.new slip.new }
     {
         if sees_every_input(&self.scheme, &self.sheet, level) {
             *words = bare.words;

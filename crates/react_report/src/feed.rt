@@ -12,7 +12,7 @@ use std::alloc::AllocError;
 const ALLOWANCE: u16 = 1000;
 
 pub fn feed<M: Machine>(out: &mut Vec<u8>, machine: &M, bytes: &[u8]) -> Result<(), AllocError>
-    ensures { Appends out.old (fed_lines (meaning machine.now) bytes.now) result out.new }
+    ensures { Appends out.old (fed_lines (M.meaning machine.now) bytes.now) result out.new }
 {
     if bytes.len() % 8 != 0 {
         return put_fault(out, 2, Fault::unplaced(Reason::Record));

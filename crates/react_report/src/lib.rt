@@ -6,11 +6,11 @@ ghost use Rattle.print.specs.Appending.{Appends};
 ghost use Rattle.react_report.specs.Report.{is_switch_sheet, report};
 
 mod feed;
-mod program;
-mod switch;
+mod of_program;
+mod of_switch;
 
-use crate::program::report_program;
-use crate::switch::report_switch;
+use crate::of_program::report_program;
+use crate::of_switch::report_switch;
 use fault::{Fault, Reason};
 use parts::cut_part;
 use print::put_fault;

@@ -20,7 +20,7 @@ pub fn list_reactions<M: Machine>(
     allowance: u16,
     bytes: &[u8],
 ) -> Result<(), AllocError>
-    ensures { Appends out.old (reaction_lines (meaning machine.now) allowance bytes.now) result out.new }
+    ensures { Appends out.old (reaction_lines (M.meaning machine.now) allowance bytes.now) result out.new }
 {
     let mut words = [0; 16];
     let mut n = 0;
@@ -39,8 +39,8 @@ fn put_turn<M: Machine>(
     n: u64,
     record: &[u8],
 ) -> Result<(), AllocError>
-    ensures text { Appends out.old (turn_lines (meaning machine.now) allowance n words.old (decoded_in «record».now)) result out.new }
-    ensures words { words.new ≡ turn_words (meaning machine.now) allowance words.old (decoded_in «record».now) }
+    ensures text { Appends out.old (turn_lines (M.meaning machine.now) allowance n words.old (decoded_in «record».now)) result out.new }
+    ensures words { words.new ≡ turn_words (M.meaning machine.now) allowance words.old (decoded_in «record».now) }
 {
     match Ticket::decode_in(record) {
         Ok(ticket) => {

@@ -30,8 +30,8 @@ pub fn replay<M: Machine, S: Scheme>(
     slips: &mut [Ticket],
     answers: &mut Vec<Answer>,
 ) -> Result<(), ReplayError>
-    ensures replayed { Replayed meaning levels monitor.old sheet.now allowance calls.now bytes.now slips.old answers.old result monitor.new slips.new answers.new }
-    ensures promised { Promised (meaning (machine_of monitor.old)) (levels (scheme_of monitor.old)) sheet.now allowance }
+    ensures replayed { Replayed M.meaning S.levels monitor.old sheet.now allowance calls.now bytes.now slips.old answers.old result monitor.new slips.new answers.new }
+    ensures promised { Promised (M.meaning (machine_of monitor.old)) (S.levels (scheme_of monitor.old)) sheet.now allowance }
 {
     if answers.reserve(calls.len()).is_err() {
         return Err(ReplayError::NoMemory);
@@ -50,9 +50,9 @@ fn carry_out_all<M: Machine, S: Scheme>(
     slips: &mut [Ticket],
     answers: &mut Vec<Answer>,
 )
-    requires opened { Follows meaning levels [] monitor.old }
+    requires opened { Follows M.meaning S.levels [] monitor.old }
     requires room { vec_len answers.old + length calls.now ≤ vec_capacity answers.old }
-    ensures { Carried meaning levels monitor.old calls.now bytes.now slips.old answers.old monitor.new slips.new answers.new }
+    ensures { Carried M.meaning S.levels monitor.old calls.now bytes.now slips.old answers.old monitor.new slips.new answers.new }
 {
     let mut read = 0;
     let mut lent = 0;

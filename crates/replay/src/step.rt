@@ -19,7 +19,7 @@ pub fn carry_out<M: Machine, S: Scheme>(
     slips: &mut [Ticket],
 ) -> Answer
     ensures same { SameParts monitor.old monitor.new }
-    ensures carried { (before : List Called) → Follows meaning levels before monitor.old → Carries meaning levels before monitor.old call bytes.now slips.old result monitor.new slips.new }
+    ensures carried { (before : List Called) → Follows M.meaning S.levels before monitor.old → Carries M.meaning S.levels before monitor.old call bytes.now slips.old result monitor.new slips.new }
 {
     match call {
         Call::HandIn {

@@ -11,7 +11,7 @@ use Rattle.secrecy.specs.Observer.{Observer, observer, Agree}
 use Rattle.secrecy.specs.Alike.{Alike, KeepsApart}
 use Rattle.secrecy.specs.Laws.{TypedProgramsKeepLevelsApart, PassedProgramsKeepLevelsApart}
 use Rattle.secrecy.proofs.Agreeing.{agree_trans}
-use Rattle.secrecy.proofs.Hidden.{run_unnoticed}
+use Rattle.secrecy.proofs.Hiding.{run_unnoticed}
 use Rattle.secrecy.proofs.Outcomes.{unfed, alike_unfed}
 use Rattle.secrecy.proofs.Secure.{handler_secure, handler_hidden}
 use Rattle.secrecy.proofs.Together.{runs_alike}

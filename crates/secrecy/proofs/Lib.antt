@@ -1,7 +1,7 @@
 pub mod Agreeing
 pub mod Apart
 mod Blocks
-mod Hidden
+mod Hiding
 pub mod Outcomes
 mod Secure
 mod Together

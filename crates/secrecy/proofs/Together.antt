@@ -11,7 +11,7 @@ use Rattle.secrecy.specs.Observer.{Observer, seen, Agree}
 use Rattle.secrecy.specs.Alike.{Beginning}
 use Rattle.secrecy.proofs.Agreeing.{single, agree_sym, agree_trans, agree_set, seen_output, seen_begins}
 use Rattle.secrecy.proofs.Blocks.{⨟-assoc, Known, Hidden, Secure, same_value, hidden-⨟, secure-⨟}
-use Rattle.secrecy.proofs.Hidden.{Through, stalls, comes, through}
+use Rattle.secrecy.proofs.Hiding.{Through, stalls, comes, through}
 use Rattle.secrecy.proofs.Outcomes.{alike_sym, alike_stalled, EndsAlike, ended_alike, run_grows, stalled_alike, spent_alike}
 
 -- a loop as a branch before what follows it

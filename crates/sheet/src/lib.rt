@@ -36,7 +36,7 @@ impl LevelSheet {
 
     // Refused where the scheme lacks a level of the sheet.
     pub fn check<S: Scheme>(&self, scheme: &S) -> Result<(), Fault>
-        ensures { result ≡ checked (levels scheme.now) self.now }
+        ensures { result ≡ checked (S.levels scheme.now) self.now }
     {
         let count = scheme.count();
         if each_below(count, &self.channels) && each_below(count, &self.variables) {

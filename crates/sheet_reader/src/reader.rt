@@ -64,7 +64,7 @@ fn give(sheet: &mut LevelSheet, name: Name, level: u8)
 
 // The levels of the lines of a text; what a refusal leaves in the sheet is open.
 fn fill_sheet<S: Scheme>(text: &[u8], scheme: &S, sheet: &mut LevelSheet) -> Result<(), Fault>
-    ensures { Filled (levels scheme.now).lowest (reading (levels scheme.now) text.now) result sheet.new }
+    ensures { Filled (S.levels scheme.now).lowest (reading (S.levels scheme.now) text.now) result sheet.new }
 {
     if text.len() > TEXT_LIMIT {
         return Err(Fault::unplaced(Reason::Overlong));
@@ -97,9 +97,9 @@ fn fill_sheet<S: Scheme>(text: &[u8], scheme: &S, sheet: &mut LevelSheet) -> Res
 
 // The sheet that a text is the writing of, with the scheme's lowest level for each name that it lacks.
 pub fn read_sheet<S: Scheme>(text: &[u8], scheme: &S, sheet: &mut LevelSheet) -> Result<(), Fault>
-    ensures value { result ≡ answer (reading (levels scheme.now) text.now) }
-    ensures sheet { sheet.new ≡ sheet_after (levels scheme.now).lowest (reading (levels scheme.now) text.now) }
-    ensures accepts { Accepts (levels scheme.now) text.now result sheet.new }
+    ensures value { result ≡ answer (reading (S.levels scheme.now) text.now) }
+    ensures sheet { sheet.new ≡ sheet_after (S.levels scheme.now).lowest (reading (S.levels scheme.now) text.now) }
+    ensures accepts { Accepts (S.levels scheme.now) text.now result sheet.new }
 {
     match fill_sheet(text, scheme, sheet) {
         Ok(()) => Ok(()),

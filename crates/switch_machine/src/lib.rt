@@ -1,6 +1,6 @@
 // The switch sheet as a reactive machine.
 #![tactic(auto)]
 
-mod switch;
+mod switching;
 
-pub use switch::Switch;
+pub use switching::Switch;

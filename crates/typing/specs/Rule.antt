@@ -13,16 +13,16 @@ level_of labels x (binary o l r) = labels.scheme.join (level_of labels x l) (lev
 
 -- the join of a ground and an expression: the ground of the blocks that a test opens, and what an assignment or output tells its target
 abbrev pub raised : Labels → ℕ → ℕ → Expr → ℕ
-raised labels x ground e = labels.scheme.join ground (level_of labels x e)
+raised labels x surrounding e = labels.scheme.join surrounding (level_of labels x e)
 
 -- a block passes on a ground if each assignment and each output tells its target nothing that is not at or below it
 abbrev pub passes : Labels → ℕ → ℕ → Block → Bool
-passes labels x ground done = true
-passes labels x ground (skip k) = passes labels x ground k
-passes labels x ground (assign v e k) = labels.scheme.below (raised labels x ground e) (labels.of_variable v) && passes labels x ground k
-passes labels x ground (output c e k) = labels.scheme.below (raised labels x ground e) (labels.of_channel c) && passes labels x ground k
-passes labels x ground (branch w e p q k) = passes labels x (raised labels x ground e) p && (passes labels x (raised labels x ground e) q && passes labels x ground k)
-passes labels x ground (repeat e p k) = passes labels x (raised labels x ground e) p && passes labels x ground k
+passes labels x surrounding done = true
+passes labels x surrounding (skip k) = passes labels x surrounding k
+passes labels x surrounding (assign v e k) = labels.scheme.below (raised labels x surrounding e) (labels.of_variable v) && passes labels x surrounding k
+passes labels x surrounding (output c e k) = labels.scheme.below (raised labels x surrounding e) (labels.of_channel c) && passes labels x surrounding k
+passes labels x surrounding (branch w e p q k) = passes labels x (raised labels x surrounding e) p && (passes labels x (raised labels x surrounding e) q && passes labels x surrounding k)
+passes labels x surrounding (repeat e p k) = passes labels x (raised labels x surrounding e) p && passes labels x surrounding k
 
 -- the ground of a handler is the level of its channel
 abbrev pub handler_passes : Labels → Handler → Bool

@@ -45,7 +45,7 @@ fn walk<S: Scheme>(
     bare: &[Ticket],
     shadow: &[Ticket],
 ) -> Comparison
-    ensures { result ≡ compared (shows (levels scheme.now) sheet.now level) bare.now (filter (shows (levels scheme.now) sheet.now level) shadow.now) }
+    ensures { result ≡ compared (shows (S.levels scheme.now) sheet.now level) bare.now (filter (shows (S.levels scheme.now) sheet.now level) shadow.now) }
 {
     let mut next = next_seen(scheme, sheet, level, shadow, 0);
     for place in 0..bare.len() {
@@ -115,7 +115,7 @@ pub fn compare<S: Scheme>(
     shadow: &[Ticket],
     shadow_stalled: bool,
 ) -> Findings
-    ensures { result ≡ found (shows (levels scheme.now) sheet.now level) level bare.now bare_stalled shadow.now shadow_stalled }
+    ensures { result ≡ found (shows (S.levels scheme.now) sheet.now level) level bare.now bare_stalled shadow.now shadow_stalled }
 {
     let comparison = walk(scheme, sheet, level, bare, shadow);
     Findings {

@@ -8,14 +8,14 @@ use sheet::LevelSheet;
 use ticket::Ticket;
 
 pub fn sees<S: Scheme>(scheme: &S, sheet: &LevelSheet, level: u8, channel: u8) -> bool
-    ensures { result ≡ sight (levels scheme.now) sheet.now level channel }
+    ensures { result ≡ sight (S.levels scheme.now) sheet.now level channel }
 {
     scheme.at_or_below(sheet.channel_level(channel), level)
 }
 
 // Whether the level sees all channels of in-tickets.
 pub fn sees_every_input<S: Scheme>(scheme: &S, sheet: &LevelSheet, level: u8) -> bool
-    ensures { result ≡ sees_each (sight (levels scheme.now) sheet.now level) 16 }
+    ensures { result ≡ sees_each (sight (S.levels scheme.now) sheet.now level) 16 }
 {
     for channel in 0..16 {
         if !sees(scheme, sheet, level, channel) {
@@ -35,8 +35,8 @@ pub fn next_seen<S: Scheme>(
 ) -> usize
     requires within { from ≤ length tickets.now }
     ensures place { result ≤ length tickets.now }
-    ensures skipped { filter (shows (levels scheme.now) sheet.now level) (drop from tickets.now) ≡ filter (shows (levels scheme.now) sheet.now level) (drop result tickets.now) }
-    ensures found { result < length tickets.now → shows (levels scheme.now) sheet.now level (slice_index_or tickets.now result blank) ≡ true }
+    ensures skipped { filter (shows (S.levels scheme.now) sheet.now level) (drop from tickets.now) ≡ filter (shows (S.levels scheme.now) sheet.now level) (drop result tickets.now) }
+    ensures found { result < length tickets.now → shows (S.levels scheme.now) sheet.now level (slice_index_or tickets.now result blank) ≡ true }
 {
     let mut at = from;
     while at < tickets.len() && !sees(scheme, sheet, level, tickets[at].channel) {

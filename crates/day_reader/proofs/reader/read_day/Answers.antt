@@ -6,7 +6,7 @@ pub returns-in-Ok : goal.returns-in-Ok
 returns-in-Ok c =
     let t = c.args.text.now in
     let old = c.args.records.now in
-    let new = c.append-records.new.records in
+    let new = c.append_records.new.records in
     let h = c.in-Ok.ensures in
     record { reads = h.records; answer = answer_where_room t old (Ok tt) new h.records; accepts = reads_accepts t old (Ok tt) new h.records; capacity = h.capacity }
 
@@ -14,7 +14,7 @@ pub returns-in-Err : goal.returns-in-Err
 returns-in-Err c =
     let t = c.args.text.now in
     let old = c.args.records.now in
-    let mid = c.append-records.new.records in
+    let mid = c.append_records.new.records in
     let new = c.truncate.new.self in
     let e = c.in-Err.error in
     let h = c.in-Err.ensures in

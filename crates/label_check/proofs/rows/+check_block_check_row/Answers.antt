@@ -8,7 +8,7 @@ pub check-block-returns-in-Close : goal.check-block-returns-in-Close
 check-block-returns-in-Close t c =
     let row = at_row (labels_in c.args.table.now) c.args.rows.now c.args.terms.now c.args.x in
     record {
-      leak = λ gs. c.loop-at.invariant.same gs ∙ row (c.args.ground ∷ gs) c.loop-at.at kind.Close c.loop-at-test.true c.in-Close.is;
+      leak = λ gs. c.loop-at.invariant.same gs ∙ row (c.args.surrounding ∷ gs) c.loop-at.at kind.Close c.loop-at-test.true c.in-Close.is;
       place = search rules;
     }
 
@@ -17,20 +17,20 @@ check-block-returns t c =
     let end = past (labels_in c.args.table.now) c.args.rows.now c.args.terms.now c.args.x in
     let at = c.loop-at.at in
     record {
-      leak = λ gs. c.loop-at.invariant.same gs ∙ end (c.args.ground ∷ gs) at c.loop-at-test.false ∙ sym (end gs at c.loop-at-test.false);
+      leak = λ gs. c.loop-at.invariant.same gs ∙ end (c.args.surrounding ∷ gs) at c.loop-at-test.false ∙ sym (end gs at c.loop-at-test.false);
       place = search rules;
     }
 
 pub check-row-returns-then-at-or-below : goal.check-row-returns-then-at-or-below
 check-row-returns-then-at-or-below t c = record {
-  leak = assign_on (labels_in c.args.table.now) c.args.rows.now c.args.terms.now c.args.x c.args.ground c.args.at c.requires.within
+  leak = assign_on (labels_in c.args.table.now) c.args.rows.now c.args.terms.now c.args.x c.args.surrounding c.args.at c.requires.within
       c.raised-told.result c.raised-told.ensures.value c.in-Assign.v c.in-Assign.is c.if-at-or-below.ensures;
   place = search rules;
 }
 
 pub check-row-returns-else-at-or-below : goal.check-row-returns-else-at-or-below
 check-row-returns-else-at-or-below t c = record {
-  leak = assign_off (labels_in c.args.table.now) c.args.rows.now c.args.terms.now c.args.x c.args.ground c.args.at c.requires.within
+  leak = assign_off (labels_in c.args.table.now) c.args.rows.now c.args.terms.now c.args.x c.args.surrounding c.args.at c.requires.within
       c.raised-told.result c.raised-told.ensures.value c.in-Assign.v c.in-Assign.is c.if-at-or-below.ensures;
   place = c.requires.within;
 }
@@ -40,7 +40,7 @@ check-row-returns-then-at-or-below-2 t c =
     let labels = labels_in c.args.table.now in
     let told = c.raised-told-in-Output.result in
     record {
-      leak = output_on labels c.args.rows.now c.args.terms.now c.args.x c.args.ground c.args.at c.requires.within
+      leak = output_on labels c.args.rows.now c.args.terms.now c.args.x c.args.surrounding c.args.at c.requires.within
           told c.raised-told-in-Output.ensures.value c.in-Output.c c.in-Output.is (c.if-at-or-below-2.ensures ∙ ap (labels.scheme.below told) c.channel-level.ensures);
       place = search rules;
     }
@@ -50,20 +50,20 @@ check-row-returns-else-at-or-below-2 t c =
     let labels = labels_in c.args.table.now in
     let told = c.raised-told-in-Output.result in
     record {
-      leak = output_off labels c.args.rows.now c.args.terms.now c.args.x c.args.ground c.args.at c.requires.within
+      leak = output_off labels c.args.rows.now c.args.terms.now c.args.x c.args.surrounding c.args.at c.requires.within
           told c.raised-told-in-Output.ensures.value c.in-Output.c c.in-Output.is (c.if-at-or-below-2.ensures ∙ ap (labels.scheme.below told) c.channel-level.ensures);
       place = c.requires.within;
     }
 
 pub check-row-returns-in-If : goal.check-row-returns-in-If
 check-row-returns-in-If t c = record {
-  leak = opens (labels_in c.args.table.now) c.args.rows.now c.args.terms.now c.args.x c.args.ground c.args.at c.requires.within
+  leak = opens (labels_in c.args.table.now) c.args.rows.now c.args.terms.now c.args.x c.args.surrounding c.args.at c.requires.within
       c.raised-inner.result c.raised-inner.ensures.value c.check-block.result c.in-If.is c.check-block.ensures.leak;
   place = c.check-block.ensures.place;
 }
 
 pub check-row-returns-in-Skip : goal.check-row-returns-in-Skip
 check-row-returns-in-Skip t c = record {
-  leak = plain_on (labels_in c.args.table.now) c.args.rows.now c.args.terms.now c.args.x c.args.ground c.args.at c.requires.within c.requires.inside c.in-Skip.is;
+  leak = plain_on (labels_in c.args.table.now) c.args.rows.now c.args.terms.now c.args.x c.args.surrounding c.args.at c.requires.within c.requires.inside c.in-Skip.is;
   place = search rules;
 }

@@ -10,7 +10,7 @@ abbrev pub decreases-check-row : goal.decreases-check-row
 decreases-check-row l = 2 * (length l.rows.now - l.at)
 
 abbrev pub invariant-check-block-loop-at : goal.invariant-check-block-loop-at
-invariant-check-block-loop-at l = Walk (labels_in l.table) l.rows l.terms l.x l.ground l.from l.at
+invariant-check-block-loop-at l = Walk (labels_in l.table) l.rows l.terms l.x l.surrounding l.from l.at
 
 abbrev pub decreases-check-block-loop-at : goal.decreases-check-block-loop-at
 decreases-check-block-loop-at l = length l.rows - l.at

@@ -20,10 +20,10 @@ returns-then-second c =
       rest = rest_kept c.args.j _ _ c.nest.ensures.rest;
     }
 
-pub returns-then-j-ge-ROW-LIMIT : goal.returns-then-j-ge-ROW-LIMIT
-returns-then-j-ge-ROW-LIMIT c =
+pub returns-then-j-ge-ROW_LIMIT : goal.returns-then-j-ge-ROW_LIMIT
+returns-then-j-ge-ROW_LIMIT c =
     record {
-      value = full c.args.rows.now c.args.stack.now.depth c.args.stack.now.at c.args.j c.args.line c.args.row _ _ _ c.requires.0 c.requires.1.0 c.requires.1.1.0 c.nest.ensures.value c.if-not-nest.false (sym c.if-second.ensures) _ _ _ c.placed-then-j-ge-ROW-LIMIT.ensures c.then-j-ge-ROW-LIMIT.either;
+      value = full c.args.rows.now c.args.stack.now.depth c.args.stack.now.at c.args.j c.args.line c.args.row _ _ _ c.requires.0 c.requires.1.0 c.requires.1.1.0 c.nest.ensures.value c.if-not-nest.false (sym c.if-second.ensures) _ _ _ c.placed-then-j-ge-ROW_LIMIT.ensures c.then-j-ge-ROW_LIMIT.either;
       below = search rules;
       room = tt;
       rest = rest_kept c.args.j _ _ c.nest.ensures.rest;

@@ -11,10 +11,10 @@ returns-in-If c =
       rest = search (rules, drop-set-lt);
     }
 
-pub returns-in-default : goal.returns-in-default
-returns-in-default c =
+pub returns-in_default : goal.returns-in_default
+returns-in_default c =
     record {
-      value = no_turn c.args.rows.now c.args.stack.now.depth c.args.stack.now.at c.args.j (omega arith) _ _ c.in-default.not-If;
+      value = no_turn c.args.rows.now c.args.stack.now.depth c.args.stack.now.at c.args.j (omega arith) _ _ c.in_default.not-If;
       below = search rules;
       rest = search rules;
     }

@@ -7,8 +7,8 @@ use Rattle.program.proofs.reader.read_program.Goals as goal
 pub returns-in-Ok : goal.returns-in-Ok
 returns-in-Ok c =
     let v : Ok c.in-Ok.count ≡ answer c.args.text.now c.args.rows.now c.args.terms.now = search rules in
-    let r : c.fill-tables.new.rows ≡ rows_after c.args.text.now c.args.rows.now c.args.terms.now = search rules in
-    let t : c.fill-tables.new.terms ≡ terms_after c.args.text.now c.args.rows.now c.args.terms.now = search rules in
+    let r : c.fill_tables.new.rows ≡ rows_after c.args.text.now c.args.rows.now c.args.terms.now = search rules in
+    let t : c.fill_tables.new.terms ≡ terms_after c.args.text.now c.args.rows.now c.args.terms.now = search rules in
     record { value = v; rows = r; terms = t; accepts = answer_accepts c.args.text.now c.args.rows.now c.args.terms.now _ _ _ v r t }
 
 pub returns-in-Err : goal.returns-in-Err

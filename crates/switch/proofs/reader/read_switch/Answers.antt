@@ -7,7 +7,7 @@ use Rattle.switch.proofs.reader.read_switch.Goals as goal
 pub returns-in-Ok : goal.returns-in-Ok
 returns-in-Ok c =
     let v : Ok c.in-Ok.count ≡ answer (length c.args.lines.now) c.args.text.now = search rules in
-    let l : c.fill-lines.new.lines ≡ lines_after c.args.text.now c.args.lines.now = search rules in
+    let l : c.fill_lines.new.lines ≡ lines_after c.args.text.now c.args.lines.now = search rules in
     record { value = v; lines = l; accepts = answer_accepts c.args.text.now c.args.lines.now _ _ v l }
 
 pub returns-in-Err : goal.returns-in-Err

@@ -4,10 +4,10 @@ use Rattle.text.specs.Lines.{all_printable}
 use Rattle.text.proofs.Raggedness.{byte_here, short_is_clean}
 use Rattle.text.proofs.lines.is_clean.Goals as goal
 
-pub returns-then-not-is-printable : goal.returns-then-not-is-printable
-returns-then-not-is-printable c =
+pub returns-then-not-is_printable : goal.returns-then-not-is_printable
+returns-then-not-is_printable c =
     short_is_clean c.args.line.now false (omega arith)
-    (c.loop-byte.invariant ∙ byte_here c.args.line.now c.loop-byte.byte-index false c.loop-byte-test.true (sym c.if-not-is-printable.ensures))
+    (c.loop-byte.invariant ∙ byte_here c.args.line.now c.loop-byte.byte-index false c.loop-byte-test.true (sym c.if-not-is_printable.ensures))
 
 pub loop-byte-preserved : goal.loop-byte-preserved
 loop-byte-preserved c = c.loop-byte.invariant ∙ byte_here c.args.line.now c.loop-byte.byte-index true c.loop-byte-test.true (sym c.if-not-is_printable.ensures)

@@ -5,12 +5,12 @@ use Rattle.text.proofs.Cutting.{shorter}
 use Rattle.text.proofs.Raggedness.{unfed_is_ragged, line_and_rest}
 use Rattle.text.proofs.lines.next_line.Goals as goal
 
-pub returns-then-is-empty : goal.returns-then-is-empty
-returns-then-is-empty c = nil_from_length c.args.left.now (eqb-true (length c.args.left.now) 0 (sym c.if-is-empty.ensures))
+pub returns-then-is_empty : goal.returns-then-is_empty
+returns-then-is_empty c = nil_from_length c.args.left.now (eqb-true (length c.args.left.now) 0 (sym c.if-is_empty.ensures))
 
-pub returns-in-default : goal.returns-in-default
-returns-in-default c =
-    (unfed_is_ragged c.args.left.now c.cut.result.0.now c.cut.result.1 c.cut.ensures c.in-default.is (sym c.if-is-empty.ensures), c.placed.ensures)
+pub returns-in_default : goal.returns-in_default
+returns-in_default c =
+    (unfed_is_ragged c.args.left.now c.cut.result.0.now c.cut.result.1 c.cut.ensures c.in_default.is (sym c.if-is_empty.ensures), c.placed.ensures)
 
 pub returns : goal.returns
 returns c =

@@ -5,9 +5,9 @@ use Rattle.text.specs.Numbers.{digits_in}
 use Rattle.text.proofs.Decimals.{digit_here, no_digit_here, too_large_here}
 use Rattle.text.proofs.numbers.digits.Goals as goal
 
-pub returns-then-not-is-digit : goal.returns-then-not-is-digit
-returns-then-not-is-digit c =
-    record { most = tt; value = sym (c.loop-byte.invariant.1 ∙ no_digit_here c.args.high c.loop-byte.n c.args.bytes.now c.loop-byte.byte-index (omega arith) (sym c.if-not-is-digit.ensures)) }
+pub returns-then-not-is_digit : goal.returns-then-not-is_digit
+returns-then-not-is_digit c =
+    record { most = tt; value = sym (c.loop-byte.invariant.1 ∙ no_digit_here c.args.high c.loop-byte.n c.args.bytes.now c.loop-byte.byte-index (omega arith) (sym c.if-not-is_digit.ensures)) }
 
 pub returns-then-more-high : goal.returns-then-more-high
 returns-then-more-high c =

@@ -23,7 +23,7 @@ pub fn report_program<S: Scheme>(
     sheet: &LevelSheet,
     text: &[u8],
 ) -> Result<(), AllocError>
-    ensures { Appends out.old (program_report (levels scheme.now) sheet.now text.now) result out.new }
+    ensures { Appends out.old (program_report (S.levels scheme.now) sheet.now text.now) result out.new }
 {
     let mut rows = [Row::BLANK; ROW_LIMIT];
     let mut terms = [Term::BLANK; TERM_LIMIT];
@@ -41,7 +41,7 @@ fn report_rows<'a, S: Scheme>(
     rows: &'a [Row],
     terms: &'a [Term],
 ) -> Result<(), AllocError>
-    ensures { (p : Tree) → enough rows.now terms.now ≡ true → Within p → Hold p rows.now terms.now → Appends out.old (answer_line (checked (levels scheme.now) sheet.now (flat_rows p) (flat_terms p))) result out.new }
+    ensures { (p : Tree) → enough rows.now terms.now ≡ true → Within p → Hold p rows.now terms.now → Appends out.old (answer_line (checked (S.levels scheme.now) sheet.now (flat_rows p) (flat_terms p))) result out.new }
 {
     let mut program = Program::empty();
     let _ = program.load(rows, terms);

@@ -1,6 +1,6 @@
 use Rattle.std.proofs.Common.{◌≡◌, drop}
 use Rattle.switch_machine.specs.Switching.{first_fit}
-use Rattle.switch_machine.proofs.switch.running.first_fit.Given as goal
+use Rattle.switch_machine.proofs.switching.running.first_fit.Given as goal
 
 -- what is left decides
 abbrev pub invariant-loop-line : goal.invariant-loop-line

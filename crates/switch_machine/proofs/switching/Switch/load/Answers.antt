@@ -4,32 +4,32 @@ use Rattle.std.proofs.lemmas.Bool.{le-ltb, lt-leb, and_left, and_right, and_from
 use Rattle.switch.specs.Reading.{sheet_limit}
 use Rattle.switch_machine.specs.Sound.{all_fit, all_blank, is_left}
 use Rattle.switch_machine.proofs.Leaving.{left_by_some, leaves_left, loads, too_few}
-use Rattle.switch_machine.proofs.switch.Switch.load.Goals as goal
+use Rattle.switch_machine.proofs.switching.Switch.load.Goals as goal
 
-pub returns-then-lines-lt-SHEET-LIMIT : goal.returns-then-lines-lt-SHEET-LIMIT
-returns-then-lines-lt-SHEET-LIMIT c = record {
-  value = ap Err c.unplaced.ensures ∙ sym (too_few c.args.lines.now c.if-lines-lt-SHEET-LIMIT.true);
+pub returns-then-lines-lt-SHEET_LIMIT : goal.returns-then-lines-lt-SHEET_LIMIT
+returns-then-lines-lt-SHEET_LIMIT c = record {
+  value = ap Err c.unplaced.ensures ∙ sym (too_few c.args.lines.now c.if-lines-lt-SHEET_LIMIT.true);
   machine = search rules;
   exactly = search rules;
 }
 
-pub returns-then-not-all-fit : goal.returns-then-not-all-fit
-returns-then-not-all-fit c =
+pub returns-then-not-all_fit : goal.returns-then-not-all_fit
+returns-then-not-all_fit c =
     let lines = c.args.lines.now in
-    let not : is_left lines ≡ false = and_left (all_fit lines) _ (sym c.if-not-all-fit.ensures.value) in
+    let not : is_left lines ≡ false = and_left (all_fit lines) _ (sym c.if-not-all_fit.ensures.value) in
     record {
-      value = ap Err c.unplaced-then-not-all-fit.ensures ∙ sym (loads lines c.if-lines-lt-SHEET-LIMIT.false false not);
+      value = ap Err c.unplaced-then-not-all_fit.ensures ∙ sym (loads lines c.if-lines-lt-SHEET_LIMIT.false false not);
       machine = search rules;
       exactly = λ _ text leaves. both_ways (is_left lines) not (leaves_left text lines leaves);
     }
 
-pub returns-then-not-all-blank : goal.returns-then-not-all-blank
-returns-then-not-all-blank c =
+pub returns-then-not-all_blank : goal.returns-then-not-all_blank
+returns-then-not-all_blank c =
     let lines = c.args.lines.now in
-    let tail : all_blank (drop sheet_limit lines) ≡ false = ap all_blank (sym (take_rest lines sheet_limit)) ∙ sym c.if-not-all-blank.ensures in
+    let tail : all_blank (drop sheet_limit lines) ≡ false = ap all_blank (sym (take_rest lines sheet_limit)) ∙ sym c.if-not-all_blank.ensures in
     let not : is_left lines ≡ false = and_right (all_fit lines) _ tail in
     record {
-      value = ap Err c.unplaced-then-not-all-blank.ensures ∙ sym (loads lines c.if-lines-lt-SHEET-LIMIT.false false not);
+      value = ap Err c.unplaced-then-not-all_blank.ensures ∙ sym (loads lines c.if-lines-lt-SHEET_LIMIT.false false not);
       machine = search rules;
       exactly = λ _ text leaves. both_ways (is_left lines) not (leaves_left text lines leaves);
     }
@@ -37,9 +37,9 @@ returns-then-not-all-blank c =
 pub returns : goal.returns
 returns c =
     let lines = c.args.lines.now in
-    let long = c.if-lines-lt-SHEET-LIMIT.false in
-    let tail : all_blank (drop sheet_limit lines) ≡ true = ap all_blank (sym (take_rest lines sheet_limit)) ∙ sym c.if-not-all-blank.ensures in
-    let fit = c.if-not-all-fit.ensures in
+    let long = c.if-lines-lt-SHEET_LIMIT.false in
+    let tail : all_blank (drop sheet_limit lines) ≡ true = ap all_blank (sym (take_rest lines sheet_limit)) ∙ sym c.if-not-all_blank.ensures in
+    let fit = c.if-not-all_fit.ensures in
     record {
       value = sym (loads lines long true (and_from (all_fit lines) _ (sym fit.value) tail));
       machine = search rules;

@@ -4,7 +4,7 @@ use Rattle.language.specs.Step.{reaction}
 use Rattle.print.specs.Appending.{Appends}
 use Rattle.react_report.specs.Report.{fed_lines}
 use Rattle.loader.proofs.Holding.{loaded_is_held}
-use Rattle.react_report.proofs.program.report_rows.Goals as goal
+use Rattle.react_report.proofs.of_program.report_rows.Goals as goal
 
 pub returns : goal.returns
 returns c p enough within held =

@@ -1,6 +1,6 @@
 use Rattle.std.proofs.Common.{sym}
 use Rattle.switch_machine.proofs.Fitting.{first_fit_more, first_fit_found, first_fit_none}
-use Rattle.switch_machine.proofs.switch.running.first_fit.Goals as goal
+use Rattle.switch_machine.proofs.switching.running.first_fit.Goals as goal
 
 pub returns-then-fits : goal.returns-then-fits
 returns-then-fits c = first_fit_found c.args.state c.args.ticket _ c.loop-line.line-index c.loop-line-test.true (sym c.if-fits.ensures) c.loop-line.invariant

@@ -5,7 +5,7 @@ use Rattle.switch.specs.declared.line.SwitchLine.{SwitchLine}
 use Rattle.switch_machine.specs.Loading.{Holds}
 use Rattle.switch_machine.specs.Switching.{switched}
 use Rattle.react_report.specs.Report.{fed_lines}
-use Rattle.react_report.proofs.switch.report_lines.Goals as goal
+use Rattle.react_report.proofs.of_switch.report_lines.Goals as goal
 
 pub returns : goal.returns
 returns c =

@@ -1,6 +1,6 @@
 use Rattle.std.proofs.Common.{◌≡◌, drop}
 use Rattle.switch_machine.specs.Sound.{all_blank}
-use Rattle.switch_machine.proofs.switch.loading.all_blank.Given as goal
+use Rattle.switch_machine.proofs.switching.loading.all_blank.Given as goal
 
 -- what is left decides
 abbrev pub invariant-loop-line : goal.invariant-loop-line

@@ -6,7 +6,7 @@ use Rattle.switch_machine.specs.Switching.{switched}
 use Rattle.switch_machine.proofs.Leaving.{read_lines_load}
 use Rattle.react_report.specs.Report.{fed_lines, switch_lines, switch_report}
 use Rattle.react_report.proofs.Reading.{read_accepted}
-use Rattle.react_report.proofs.switch.report_switch.Goals as goal
+use Rattle.react_report.proofs.of_switch.report_switch.Goals as goal
 
 pub report-lines-requires : goal.report-lines-requires
 report-lines-requires c =

@@ -2,7 +2,7 @@ use Rattle.std.proofs.Common.{◌≡◌, take, drop}
 use Rattle.std.specs.List.{AllByRecursion as All}
 use Rattle.switch.specs.Writing.{Fit}
 use Rattle.switch_machine.specs.Sound.{all_fit}
-use Rattle.switch_machine.proofs.switch.loading.all_fit.Given as goal
+use Rattle.switch_machine.proofs.switching.loading.all_fit.Given as goal
 
 -- what is left decides, and what was passed is fit
 abbrev pub invariant-loop-line : goal.invariant-loop-line

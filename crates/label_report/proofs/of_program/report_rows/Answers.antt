@@ -8,7 +8,7 @@ use Rattle.program.specs.declared.rows.Row.{Row}
 use Rattle.program.specs.declared.rows.Term.{Term}
 use Rattle.program.specs.Writing.{flat_rows, flat_terms}
 use Rattle.label_report.specs.Report.{answer_line}
-use Rattle.label_report.proofs.program.report_rows.Goals as goal
+use Rattle.label_report.proofs.of_program.report_rows.Goals as goal
 
 pub returns : goal.returns
 returns g c p enough within held =

@@ -7,19 +7,19 @@ use Rattle.switch.specs.Reading.{blank}
 use Rattle.switch.specs.Writing.{Fit}
 use Rattle.switch_machine.specs.Sound.{is_fit}
 use Rattle.switch_machine.proofs.Passing.{each_more, each_stops, each_all}
-use Rattle.switch_machine.proofs.switch.loading.all_fit.Goals as goal
+use Rattle.switch_machine.proofs.switching.loading.all_fit.Goals as goal
 
-pub returns-then-not-is-fit : goal.returns-then-not-is-fit
-returns-then-not-is-fit c = record {
-  value = each_stops is_fit _ c.loop-line.line-index c.loop-line-test.true (sym c.if-not-is-fit.ensures.value) c.loop-line.invariant.0;
+pub returns-then-not-is_fit : goal.returns-then-not-is_fit
+returns-then-not-is_fit c = record {
+  value = each_stops is_fit _ c.loop-line.line-index c.loop-line-test.true (sym c.if-not-is_fit.ensures.value) c.loop-line.invariant.0;
   fit = λ is. absurd (false≢true is);
 }
 
 pub loop-line-preserved : goal.loop-line-preserved
 loop-line-preserved c =
     let i = c.loop-line.line-index in (
-      each_more is_fit _ i c.loop-line-test.true (sym c.if-not-is-fit.ensures.value) c.loop-line.invariant.0,
-      All-more Fit c.args.lines.now i blank c.loop-line-test.true c.loop-line.invariant.1 (c.if-not-is-fit.ensures.fit refl),
+      each_more is_fit _ i c.loop-line-test.true (sym c.if-not-is_fit.ensures.value) c.loop-line.invariant.0,
+      All-more Fit c.args.lines.now i blank c.loop-line-test.true c.loop-line.invariant.1 (c.if-not-is_fit.ensures.fit refl),
     )
 
 pub returns : goal.returns
