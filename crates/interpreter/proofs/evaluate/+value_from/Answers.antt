@@ -13,18 +13,18 @@ bounds-words-v t c =
     let P : List Expr → Type 0 = λ es. InRange (first_expression es) in
     subst P e c.requires.ranged
 
-pub value-from-left-requires : goal.value-from-left-requires
-value-from-left-requires t c =
+pub value_from-left-requires : goal.value_from-left-requires
+value_from-left-requires t c =
     let p = two_parts c.in-Operator.operator c.args.terms.now c.args.at Input c.requires.within c.in-Operator.is c.requires.whole c.requires.ranged in
     let w = expression_is_within c.args.terms.now (c.args.at + 1) p.operands.left in
     (omega arith, (w, (p.operands.left, p.left_ranged)))
 
-pub value-from-right-requires : goal.value-from-right-requires
-value-from-right-requires t c =
+pub value_from-right-requires : goal.value_from-right-requires
+value_from-right-requires t c =
     let p = two_parts c.in-Operator.operator c.args.terms.now c.args.at Input c.requires.within c.in-Operator.is c.requires.whole c.requires.ranged in
-    let some : 0 < length (expressions (drop c.value-from-left.result.1 c.args.terms.now)) = rw c.value-from-left.ensures.rest p.operands.right in
-    let w = expression_is_within c.args.terms.now c.value-from-left.result.1 some in
-    (omega arith, (w, (some, rw c.value-from-left.ensures.rest p.right_ranged)))
+    let some : 0 < length (expressions (drop c.value_from-left.result.1 c.args.terms.now)) = rw c.value_from-left.ensures.rest p.operands.right in
+    let w = expression_is_within c.args.terms.now c.value_from-left.result.1 some in
+    (omega arith, (w, (some, rw c.value_from-left.ensures.rest p.right_ranged)))
 
 pub returns-in-Input : goal.returns-in-Input
 returns-in-Input t c =
@@ -44,10 +44,10 @@ returns-in-Variable t c =
 pub returns-in-Operator : goal.returns-in-Operator
 returns-in-Operator t c =
     let p = two_parts c.in-Operator.operator c.args.terms.now c.args.at Input c.requires.within c.in-Operator.is c.requires.whole c.requires.ranged in
-    let a = c.value-from-left.ensures in
-    let b = c.value-from-right.ensures in
+    let a = c.value_from-left.ensures in
+    let b = c.value_from-right.ensures in
     record {
-      value = operator_value c.in-Operator.operator c.args.terms.now c.args.at c.value-from-left.result.1 c.args.x c.args.words.now c.value-from-left.result.0 c.value-from-right.result.0 c.apply.result p a.value a.rest b.value c.apply.ensures;
+      value = operator_value c.in-Operator.operator c.args.terms.now c.args.at c.value_from-left.result.1 c.args.x c.args.words.now c.value_from-left.result.0 c.value_from-right.result.0 c.apply.result p a.value a.rest b.value c.apply.ensures;
       rest = b.rest ∙ ap rest_expressions a.rest ∙ ap rest_expressions (sym p.is);
       onward = omega arith;
       place = omega arith;

@@ -20,7 +20,7 @@ block-returns-then-not-row t c =
     let rows = c.args.self.now.rows.now in
     let terms = c.args.self.now.terms.now in
     let at = c.loop-at.at in
-    let g = goes rows terms at c.requires.sound c.loop-at.invariant.0 c.loop-at.invariant.1 c.in-default.not-Else c.in-default.not-Close in
+    let g = goes rows terms at c.requires.sound c.loop-at.invariant.0 c.loop-at.invariant.1 c.in_default.not-Else c.in_default.not-Close in
     stalls_in_first c.args.job.now c.loop-at.job c.row.new.job (block_at rows terms c.args.from) (block_at rows terms at) c.loop-at.invariant.2
     (row_at rows terms at) (block_at rows terms (next_at rows at)) g.is c.if-not-row.ensures
 
@@ -30,7 +30,7 @@ block-loop-at-preserved t c =
     let terms = c.args.self.now.terms.now in
     let at = c.loop-at.at in
     let from = block_at rows terms c.args.from in
-    let g = goes rows terms at c.requires.sound c.loop-at.invariant.0 c.loop-at.invariant.1 c.in-default.not-Else c.in-default.not-Close in
+    let g = goes rows terms at c.requires.sound c.loop-at.invariant.0 c.loop-at.invariant.1 c.in_default.not-Else c.in_default.not-Close in
     let come =
     reaches_more c.args.job.now c.loop-at.job c.row.new.job from (block_at rows terms at) c.loop-at.invariant.2
     (row_at rows terms at) (block_at rows terms (next_at rows at)) g.is c.if-not-row.ensures
@@ -84,11 +84,11 @@ row-returns-in-Else t c =
     let come = second_part rows terms at j j' c.requires.ready spend.job spend.due c.evaluate.result c.evaluate.ensures c.requires.sound c.requires.within c.in-If.is c.if-evaluate-ne0.false c.in-Else.is in
     runs_rest j j' c.block-in-Else.new.job (row_at rows terms at) _ come c.block-in-Else.result c.block-in-Else.ensures
 
-pub row-returns-in-default : goal.row-returns-in-default
-row-returns-in-default t c =
+pub row-returns-in_default : goal.row-returns-in_default
+row-returns-in_default t c =
     let spend = c.if-not-spend.ensures in
     no_second_part c.args.self.now.rows.now c.args.self.now.terms.now c.args.at c.args.job.now c.spend-in-If.new.self c.requires.ready spend.job spend.due c.evaluate.result c.evaluate.ensures
-    c.requires.sound c.requires.within c.in-If.is c.if-evaluate-ne0.false c.in-default.not-Else
+    c.requires.sound c.requires.within c.in-If.is c.if-evaluate-ne0.false c.in_default.not-Else
 
 pub turns-returns-then-evaluate-eq0 : goal.turns-returns-then-evaluate-eq0
 turns-returns-then-evaluate-eq0 t c =
