@@ -12,31 +12,31 @@ use Rattle.batch.proofs.join_tickets.Goals as goal
 pub loop-record-init : goal.loop-record-init
 loop-record-init g c =
     let low = lowest_level (g.met.S.Scheme.lattice c.args.scheme.now) in
-    simp (c.into-iter-record-iterator.ensures.into-iter-gives, c.chunks-exact-record-items.ensures.size, c.chunks-exact-record-items.ensures.rest, c.lowest-level.ensures)
-    (tt, omega arith, refl, low, refl)
+    simp (c.into_iter-record-iterator.ensures.into_iter_gives, c.chunks_exact-record-items.ensures.size, c.chunks_exact-record-items.ensures.rest, c.lowest-level.ensures)
+    (omega arith, omega arith, refl, low, refl)
 
 pub loop-record-preserved : goal.loop-record-preserved
 loop-record-preserved g c =
     let L = g.S.Scheme.levels c.args.scheme.now in
     let laws = g.met.S.Scheme.lattice c.args.scheme.now in
     let steps = c.in-Some.ensures.steps in
-    let other = channel_level c.args.sheet.now c.in-ok-ticket.ticket.channel in
-    let known = channel_level_below laws c.args.sheet.now c.requires c.in-ok-ticket.ticket.channel in
+    let other = channel_level c.args.sheet.now c.in_ok-ticket.ticket.channel in
+    let known = channel_level_below laws c.args.sheet.now c.requires c.in_ok-ticket.ticket.channel in
     let old = c.loop-record.invariant in
-    let join : c.unwrap-or-level.result ≡ L.join c.loop-record.level other =
-    c.unwrap-or-level.ensures
-    ∙ ap (λ o. unwrap_or o c.loop-record.level) (c.join-join.ensures ∙ ap (join_of L c.loop-record.level) c.channel-level.ensures ∙ join_some L c.loop-record.level other old.3 known) in
+    let join : c.unwrap_or-level.result ≡ L.join c.loop-record.level other =
+    c.unwrap_or-level.ensures
+    ∙ ap (λ o. unwrap_or o c.loop-record.level) (c.join-join.ensures ∙ ap (join_of L c.loop-record.level) c.channel_level.ensures ∙ join_some L c.loop-record.level other old.3 known) in
     let more = join_tickets_more L c.args.sheet.now c.loop-record.level (chunks_exact_rest c.loop-record.record-iterator) c.in-Some.record.now (chunks_exact_rest c.next.new.self)
-    steps.1.0 (steps.1.1 ∙ old.2) c.in-ok-ticket.ticket (sym c.in-ok-ticket.ensures.value) in
+    steps.1.0 (steps.1.1 ∙ old.2) c.in_ok-ticket.ticket (sym c.in_ok-ticket.ensures.value) in
     let size = steps.0 ∙ old.2 in
-    (tt, omega arith, size, rw join (join_level laws c.loop-record.level other old.3 known), ap (λ j. join_tickets L c.args.sheet.now j (chunks_exact_rest c.next.new.self)) join ∙ sym more ∙ old.4)
+    (omega (arith, size), omega arith, size, rw join (join_level laws c.loop-record.level other old.3 known), ap (λ j. join_tickets L c.args.sheet.now j (chunks_exact_rest c.next.new.self)) join ∙ sym more ∙ old.4)
 
-pub returns-in-err-ticket : goal.returns-in-err-ticket
-returns-in-err-ticket g c =
+pub returns-in_err-ticket : goal.returns-in_err-ticket
+returns-in_err-ticket g c =
     let steps = c.in-Some.ensures.steps in
-    let p = err_from_is_err_and c.from-residual.result c.from-residual.ensures.1 in
+    let p = err_from_is_err_and c.from_residual.result c.from_residual.ensures.1 in
     let stops = join_tickets_stops (g.S.Scheme.levels c.args.scheme.now) c.args.sheet.now c.loop-record.level (chunks_exact_rest c.loop-record.record-iterator) c.in-Some.record.now (chunks_exact_rest c.next.new.self)
-    steps.1.0 (steps.1.1 ∙ c.loop-record.invariant.2) c.in-err-ticket.field-0.0 (sym c.in-err-ticket.ensures.value) in
+    steps.1.0 (steps.1.1 ∙ c.loop-record.invariant.2) c.in_err-ticket.field-0.0 (sym c.in_err-ticket.ensures.value) in
     p.1 ∙ ap Err p.2 ∙ sym stops ∙ c.loop-record.invariant.4
 
 pub returns : goal.returns

@@ -12,5 +12,5 @@ returns-then-bytes-ne0 g c =
 pub returns : goal.returns
 returns g c =
     let laws = g.met.S.Scheme.lattice c.args.scheme.now in
-    let has = checked_has (g.S.Scheme.levels c.args.scheme.now) c.args.sheet.now c.in-ok-check.ensures in
+    let has = checked_has (g.S.Scheme.levels c.args.scheme.now) c.args.sheet.now c.in_ok-check.ensures in
     record { value = search rules; least = levelled laws c.args.sheet.now has c.args.bytes.now (λ i. (c.type_inv.bytes i).fits) _ (search rules) }
