@@ -16,15 +16,15 @@ loop-ticket-preserved c =
     let i = c.loop-ticket.ticket-index in
     let lines = flat_map (made_line c.args.n) in
     appended_more c.args.out.now _ _ (made_line c.args.n (get_or ts i blank)) (lines (drop (i + 1) ts)) (at_drop_more lines ts i blank c.loop-ticket-test.true)
-    c.loop-ticket.out c.put-ticket.new.out c.loop-ticket.invariant tt c.in-ok-put-ticket.ensures
+    c.loop-ticket.out c.put_ticket.new.out c.loop-ticket.invariant tt c.in_ok-put_ticket.ensures
 
-pub returns-in-err-put-ticket : goal.returns-in-err-put-ticket
-returns-in-err-put-ticket c =
+pub returns-in_err-put_ticket : goal.returns-in_err-put_ticket
+returns-in_err-put_ticket c =
     let ts = c.args.tickets.now in
     let i = c.loop-ticket.ticket-index in
     let lines = flat_map (made_line c.args.n) in
     appended_short c.args.out.now _ _ (made_line c.args.n (get_or ts i blank)) (lines (drop (i + 1) ts)) (at_drop_more lines ts i blank c.loop-ticket-test.true)
-    c.loop-ticket.out _ c.loop-ticket.invariant c.in-err-put-ticket.field-0.0 _ c.from-residual.ensures.0 c.in-err-put-ticket.ensures
+    c.loop-ticket.out _ c.loop-ticket.invariant c.in_err-put_ticket.field-0.0 _ c.from_residual.ensures.0 c.in_err-put_ticket.ensures
 
 pub returns : goal.returns
 returns c =
