@@ -53,7 +53,7 @@ def library(top):
     """Names that some file imports from the library."""
     found = set()
     for path in files(top, ".antt", ".rt"):
-        for m in re.finditer(r"use Rattle\.std[\w.]*\.\{([^}]*)\}", code(path)):
+        for m in re.finditer(r"use (?:Rattle\.std|borrow|denote|lib|mathlib|native|Prim)[\w.]*\.\{([^}]*)\}", code(path)):
             found.update(re.findall(r"[^\s,{}]+", m[1].replace(" as ", ",")))
     return found
 

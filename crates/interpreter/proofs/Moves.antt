@@ -1,6 +1,6 @@
 -- A reaction before and after one step. Assumes nothing.
 use Rattle.std.proofs.Common.{◌≡◌, ℕ, ◌-◌, ◌<◌, Bool, true, false, ltb, length, sym, refl, ap, ◌∙◌, arith, length-take}
-use borrow.Author.Tests.{true_ltb, false_ltb}
+use borrow.Author.Tests.{true-ltb, false-ltb}
 use Rattle.std.proofs.lemmas.List.{take_more_set}
 use Rattle.language.specs.Block.{Block, skip, assign, output, branch, repeat, ◌⨟◌}
 use Rattle.language.specs.Expression.{Expr, value}
@@ -19,10 +19,10 @@ module _ (j j' : Job) (ready : Ready j) (job : j' ≡ spent j) where
   -- there is one
   module _ (due : true ≡ ltb 0 j.left) where
     step : (b : Block) → start j b ≡ after j'.input (run j'.input j'.left) j.left j'.words (tickets j') b
-    step b = rw job (one j.input j.left j.words (tickets j) b (true_ltb 0 j.left due))
+    step b = rw job (one j.input j.left j.words (tickets j) b (true-ltb 0 j.left due))
 
     pub left_falls : j'.left < j.left
-    left_falls = omega (arith, true_ltb 0 j.left due, ap (λ i. i.left) job)
+    left_falls = omega (arith, true-ltb 0 j.left due, ap (λ i. i.left) job)
 
     pub branch_zero : (w : Bool) (e : Expr) (p q : Block) → worth j' e ≡ 0 → Reaches j (branch w e p q) j' (λ k. q ⨟ k)
     branch_zero w e p q h = record { keeps = keeps_spent j j' ready job; as_told = λ k. step (branch w e p q k) ∙ ap (λ b. start j' (b ⨟ k)) (zero_way (worth j' e) q p h) }
@@ -62,7 +62,7 @@ module _ (j j' : Job) (ready : Ready j) (job : j' ≡ spent j) where
   pub skip_runs : (e : Bool) → e ≡ ltb 0 j.left → Runs j skip e j'
   skip_runs true due = record { keeps = keeps_spent j j' ready job; as_told = λ k. step due (skip k) }
   skip_runs false due =
-      let z : j.left ≡ 0 = omega (arith, false_ltb 0 j.left due) in
+      let z : j.left ≡ 0 = omega (arith, false-ltb 0 j.left due) in
       record { keeps = keeps_spent j j' ready job; as_told = λ k. rw job (none_left j.input j.left j.words (tickets j) (skip k) z refl ∙ ap (λ n. stalled n j.words (tickets j)) (omega arith)) }
 
 -- a seventeenth ticket

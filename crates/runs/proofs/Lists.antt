@@ -1,6 +1,6 @@
 -- Beginnings of lists, and induction by the last element. Assumes nothing.
 use Rattle.std.proofs.Common.{◌≡◌, Bool, true, false, List, [], ◌∷◌, ◌++◌, sym, refl, ap, ◌∙◌, subst, inl, inr, ⊎_elim, append_assoc, append-nil}
-use mathlib.Core.List.{head_eq_of_cons_eq, tail_eq_of_cons_eq}
+use mathlib.Core.List.{head-eq_of_cons-eq, tail-eq_of_cons-eq}
 use Rattle.runs.specs.Lists.{Beginning, Comparable, along_behind, along, joined}
 
 pub way : {G : Type 0} (b : Bool) → (b ≡ true → G) → (b ≡ false → G) → G
@@ -24,7 +24,7 @@ module _ {X : Type 0} where
   begin_cons x b = record { rest = b.rest; joins = ap (λ l. x ∷ l) b.joins }
 
   pub begin_tail : {x y : X} {xs ys : List X} → Beginning (x ∷ xs) (y ∷ ys) → (x ≡ y) × Beginning xs ys
-  begin_tail b = (head_eq_of_cons_eq b.joins, record { rest = b.rest; joins = tail_eq_of_cons_eq b.joins })
+  begin_tail b = (head-eq_of_cons-eq b.joins, record { rest = b.rest; joins = tail-eq_of_cons-eq b.joins })
 
   -- two beginnings of one list
   pub comparable : (xs ys zs : List X) → Beginning xs zs → Beginning ys zs → Comparable xs ys
@@ -32,8 +32,8 @@ module _ {X : Type 0} where
   comparable (x ∷ xs) [] zs p q = inr (begin_none (x ∷ xs))
   comparable (x ∷ xs) (y ∷ ys) zs p q =
       let e = p.joins ∙ sym q.joins in
-      let smaller = comparable xs ys (ys ++ q.rest) (record { rest = p.rest; joins = tail_eq_of_cons_eq e }) (record { rest = q.rest; joins = refl }) in
-      rw (head_eq_of_cons_eq e) (⊎_elim (λ b. inl (begin_cons y b)) (λ b. inr (begin_cons y b)) smaller)
+      let smaller = comparable xs ys (ys ++ q.rest) (record { rest = p.rest; joins = tail-eq_of_cons-eq e }) (record { rest = q.rest; joins = refl }) in
+      rw (head-eq_of_cons-eq e) (⊎_elim (λ b. inl (begin_cons y b)) (λ b. inr (begin_cons y b)) smaller)
 
   from_here : (P : List X → Type 0) → ((xs : List X) (x : X) → P xs → P (xs ++ (x ∷ []))) → (before xs : List X) → P before → P (before ++ xs)
   from_here P step before [] p = subst P (sym (append-nil before)) p

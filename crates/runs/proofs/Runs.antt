@@ -1,6 +1,6 @@
 -- A run is worked out from what it is fed. Assumes nothing.
 use Rattle.std.proofs.Common.{◌≡◌, Bool, true, false, cond, ◌||◌, List, [], ◌∷◌, ◌++◌, filter, sym, refl, ap, ◌∙◌}
-use mathlib.Core.List.{foldl, foldl_append}
+use mathlib.Core.List.{foldl, foldl-append}
 use Rattle.ticket.specs.declared.Ticket.{Ticket}
 use Rattle.runs.specs.Setting.{Setting, visible}
 use Rattle.runs.specs.Runs.{Run, fresh, reaction, after, run, outcome, every}
@@ -17,7 +17,7 @@ module _ (w : Setting) where
 
   -- one ticket more
   pub run_last : (feeds : Ticket → Bool) (ts : List Ticket) (t : Ticket) → run w feeds (ts ++ (t ∷ [])) ≡ after (run w feeds ts) (outcome w feeds ts t)
-  run_last feeds ts t = foldl_append (step feeds) fresh ts (t ∷ [])
+  run_last feeds ts t = foldl-append (step feeds) fresh ts (t ∷ [])
 
   unfed : (r : Run) (t : Ticket) → after r (reaction w false r t) ≡ r
   unfed r t = let e = or_none r.stalled in λ i. record { words = r.words; stalled = e i }

@@ -1,6 +1,6 @@
 -- A state tells what was answered. Assumes nothing.
 use Rattle.std.proofs.Common.{◌≡◌, Bool, true, false, cond, List, [], ◌∷◌, ◌++◌, Ok, Err, Result, sym, refl, ap, ◌∙◌, append_assoc, append-nil}
-use mathlib.Core.List.{foldl, foldl_append}
+use mathlib.Core.List.{foldl, foldl-append}
 use Rattle.std.proofs.lemmas.Bool.{both_ways}
 use Rattle.fault.specs.declared.Fault.{Fault}
 use Rattle.fault.specs.declared.Reason.TheVariants as reason
@@ -53,7 +53,7 @@ module _ (w : Setting) where
       ap (state_after w) (proper_append before (c ∷ []) ∙ ap (λ l. proper_tickets before ++ l) (append-nil (proper_ticket c)))
       ∙ call_moves before c
       ∙ ap (λ s. foldl goes_on s (verdict_in (reply w before c).answer)) e
-      ∙ sym (foldl_append goes_on running (verdicts_in (replies w before)) (verdict_in (reply w before c).answer))
+      ∙ sym (foldl-append goes_on running (verdicts_in (replies w before)) (verdict_in (reply w before c).answer))
       ∙ ap (foldl goes_on running) (sym (verdicts_append (replies w before) (reply w before c)) ∙ ap verdicts_in (sym (along_last (reply w) before c))))
 
   pub a_state_tells_what_was_answered : AStateTellsWhatWasAnswered w

@@ -1,6 +1,6 @@
 -- What a ticket brings, and which lists leave a monitor running. Assumes nothing.
 use Rattle.std.proofs.Common.{◌≡◌, ℕ, ◌<◌, Bool, true, false, cond, ◌&&◌, ◌⊎◌, List, [], ◌∷◌, ◌++◌, Some, None, Option, sym, refl, ap, ◌∙◌, subst, inl, inr, append_assoc, append-nil, arith}
-use mathlib.Core.List.{foldl, foldl_append}
+use mathlib.Core.List.{foldl, foldl-append}
 use Rattle.std.specs.Option.{option_map}
 use Rattle.std.proofs.lemmas.Bool.{and_parts, and_from, both_ways}
 use Rattle.ticket.specs.declared.Ticket.{Ticket}
@@ -106,7 +106,7 @@ module _ (w : Setting) where
   pub state_after_last : (ts : List Ticket) (t : Ticket) → state_after w (ts ++ (t ∷ [])) ≡ goes_on (state_after w ts) (verdict w ts t)
   state_after_last ts t =
       ap (λ l. foldl goes_on running l) (along_last (verdict w) ts t)
-      ∙ foldl_append goes_on running (along (verdict w) ts) (verdict w ts t ∷ [])
+      ∙ foldl-append goes_on running (along (verdict w) ts) (verdict w ts t ∷ [])
 
 goes_on_running : (s : State) (v : Verdict) → is_running (goes_on s v) ≡ (is_running s && is_ok v)
 goes_on_running closed v = refl
