@@ -1,7 +1,7 @@
 use Rattle.std.proofs.Common.{sym, arith, rules}
 use Rattle.flat_form.proofs.Again.{unfit, refused, one_more, finish, unpaired, open_end}
 use Rattle.flat_form.proofs.rebuild.used_by.Goals as goal
-use Rattle.flat_form.proofs.rebuild.used_by.Goals.{else-stack-eq0-via-then-stack-eq0+else-has-same-partners, else-stack-eq0-via-else-stack-eq0}
+use Rattle.flat_form.proofs.rebuild.used_by.Goals.{else-stack-eq0-via-then-stack-eq0+else-has_same_partners, else-stack-eq0-via-else-stack-eq0}
 
 pub returns-then-not-is_fitted : goal.returns-then-not-is_fitted
 returns-then-not-is_fitted c = record { value = unfit c.loop-j.invariant.0 c.loop-j-test.true (sym c.if-not-is_fitted.ensures); within = tt }
@@ -24,6 +24,6 @@ returns-else-stack-eq0 c =
     let a = c.loop-j-test.false in
     let b = c.loop-j.auto.j-end in
     elim c.else-stack-eq0.branch [
-      | else-stack-eq0-via-then-stack-eq0+else-has-same-partners w ↦ record { value = unpaired c.loop-j.invariant.0 (omega arith) w.if-stack-eq0.true w.if-has_same_partners.ensures; within = tt }
+      | else-stack-eq0-via-then-stack-eq0+else-has_same_partners w ↦ record { value = unpaired c.loop-j.invariant.0 (omega arith) w.if-stack-eq0.true w.if-has_same_partners.ensures; within = tt }
       | else-stack-eq0-via-else-stack-eq0 w ↦ record { value = open_end c.loop-j.invariant.0 (omega arith) w.if-stack-eq0.false; within = tt }
     ]
