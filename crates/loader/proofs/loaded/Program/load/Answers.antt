@@ -3,8 +3,8 @@ use Rattle.flat_form.specs.Extents.{extents}
 use Rattle.flat_form.proofs.Loads.{part_is_program, part_is_held, part_is_accepted, none_is_held}
 use Rattle.loader.proofs.loaded.Program.load.Goals as goal
 
-pub invariant-of-self : goal.invariant-of-self
-invariant-of-self c = (part_is_program c.args.rows.now c.args.terms.now c.in-Some.count c.in-Some.used (sym c.in-Some.ensures.value), tt)
+pub invariant_of-self : goal.invariant_of-self
+invariant_of-self c = record { flat = part_is_program c.args.rows.now c.args.terms.now c.in-Some.count c.in-Some.used (sym c.in-Some.ensures.value) }
 
 pub returns-in-Some : goal.returns-in-Some
 returns-in-Some c =
