@@ -24,7 +24,7 @@ module _ (w : Setting) where
       by_the_last (λ ts. RunsOn w ts → (run w every ts).stalled ≡ false) (λ e. refl)
       (λ ts t before e.
       let p = running_last w ts t e in
-      ap (λ r. r.stalled) (run_last w every ts t) ∙ or_from (run w every ts).stalled (bare w ts t).stalled (before p.0) p.1.IsBareEnds)
+      ap (λ r. r.stalled) (run_last w every ts t) ∙ or_from (run w every ts).stalled (bare w ts t).stalled (before p.0) p.1.bare_ends)
 
   pub shadow_goes_on : (m : ℕ) → m < w.levels → (ts : List Ticket) → RunsOn w ts → (run w (visible w m) ts).stalled ≡ false
   shadow_goes_on m l =

@@ -22,7 +22,7 @@ accepted_is_ok (Ok u) t e = cc
 accepted_is_ok (Err f) t e = let z : ◌≡◌ {A = ℕ} 0 1 = cc in absurd (omega arith)
 
 module _ (w : Setting) where
-  -- a hand_in of a proper ticket is taken or refused by 13
+  -- a hand-in of a proper ticket is taken or refused by 13
   pub reply_to_proper : (before : List Call) (c : Call) (t : Ticket) → HandsIn c t
       → (slip : List Ticket) × (reply w before c ≡ reply_to w (proper_tickets before) slip (Ok t))
   reply_to_proper before (hand_in bytes slip) t e = (slip, ap (reply_to w (proper_tickets before) slip) (accepted_is_ok (ticket_in bytes slip) t e))

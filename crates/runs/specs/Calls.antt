@@ -7,7 +7,7 @@ use Rattle.ticket.specs.declared.Ticket.{Ticket}
 use Rattle.ticket.specs.Tickets.{decoded_in}
 use Rattle.runs.specs.Setting.{Setting, seen}
 
--- a hand_in of some bytes with a slip lent for the tickets released, or a state call
+-- a hand-in of some bytes with a slip lent for the tickets released, or a state call
 pub data Call : Type 0 where
   hand_in : List ℕ → List Ticket → Call
   ask_state : Call

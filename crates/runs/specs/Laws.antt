@@ -66,7 +66,7 @@ AStallNamesTheFirstRun w =
     (before : List Call) (c : Call) (t : Ticket) (s : Stall) → HandsIn c t → (reply w before c).answer ≡ brought (stall s)
     → NamesTheRun w (proper_tickets before) t s
 
--- what an answer brought, if it is one to a hand_in that was taken
+-- what an answer brought, if it is one to a hand-in that was taken
 abbrev pub verdict_in : Answer → List Verdict
 verdict_in (brought v) = v ∷ []
 verdict_in (refused f) = []
@@ -81,7 +81,7 @@ abbrev pub AStateTellsWhatWasAnswered : Setting → Type 0
 AStateTellsWhatWasAnswered w =
     (calls : List Call) → (reply w calls ask_state).answer ≡ told (foldl goes_on running (verdicts_in (replies w calls)))
 
--- a hand_in that is taken releases the longest beginning of the bare run's tickets of which every level's shadow matches what the level sees
+-- a hand-in that is taken releases the longest beginning of the bare run's tickets of which every level's shadow matches what the level sees
 pub record LongestMatched (w : Setting) (before : List Ticket) (t : Ticket) (released : List Ticket) : Type 0 where
   pub beginning : Beginning released (bare w before t).made
   pub matched : (m : ℕ) → m < w.levels → Beginning (seen w m released) (seen w m (shadow w m before t).made)

@@ -11,7 +11,7 @@ use Rattle.runs.specs.Clashes.{matched}
 use Rattle.runs.specs.Verdicts.{Verdict, verdict}
 use Rattle.runs.specs.States.{State, closed, state_after, is_running}
 
--- the answer to a hand_in that is taken, to one that is refused, and to a state call
+-- the answer to a hand-in that is taken, to one that is refused, and to a state call
 pub data Answer : Type 0 where
   brought : Verdict → Answer
   refused : Fault → Answer
@@ -34,7 +34,7 @@ filled released slip = released ++ (replicate (16 - length released) blank ++ dr
 abbrev pub refusal : Fault → List Ticket → Reply
 refusal f slip = record { answer = refused f; released = []; slip = slip }
 
--- a hand_in that is taken tells what its ticket brings
+-- a hand-in that is taken tells what its ticket brings
 abbrev pub taking : Setting → List Ticket → Ticket → List Ticket → Reply
 taking w before t slip =
     record { answer = brought (verdict w before t); released = matched w before t; slip = filled (matched w before t) slip }
@@ -61,7 +61,7 @@ all_released w calls = joined (along (λ before c. (reply w before c).released) 
 abbrev pub released_to : Setting → ℕ → List Call → List Ticket
 released_to w m calls = seen w m (all_released w calls)
 
--- a closed monitor refuses each hand_in, by 13 where 8, 11 and 12 do not
+-- a closed monitor refuses each hand-in, by 13 where 8, 11 and 12 do not
 abbrev pub closed_to : List Ticket → Result Ticket Fault → Reply
 closed_to slip (Ok t) = refusal (unplaced reason.Halted) slip
 closed_to slip (Err f) = refusal f slip
