@@ -9,8 +9,8 @@ use Rattle.listing.proofs.put_tickets.Goals as goal
 
 pub loop-record-init : goal.loop-record-init
 loop-record-init c =
-    simp (c.into-iter-record-iterator.ensures.into-iter-gives, c.chunks-exact-record-items.ensures.size, c.chunks-exact-record-items.ensures.rest)
-    (tt, omega arith, refl, ([], sym (append-nil (vec_items c.args.out.now)), refl, omega arith))
+    simp (c.into_iter-record-iterator.ensures.into_iter_gives, c.chunks_exact-record-items.ensures.size, c.chunks_exact-record-items.ensures.rest)
+    (omega arith, omega arith, refl, ([], sym (append-nil (vec_items c.args.out.now)), refl, omega arith))
 
 pub loop-record-preserved : goal.loop-record-preserved
 loop-record-preserved c =
@@ -18,14 +18,14 @@ loop-record-preserved c =
     let size = c.loop-record.invariant.2 in
     let more = record_lines_more (chunks_exact_rest c.loop-record.record-iterator) c.in-Some.record.now (chunks_exact_rest c.next.new.self) steps.1.0 (steps.1.1 ∙ size) in
     let same = steps.0 ∙ size in
-    (tt, omega arith, same, appended_more c.args.out.now _ _ (record_line (decoded c.in-Some.record.now)) (record_lines (chunks_exact_rest c.next.new.self)) more c.loop-record.out c.put-record.new.out c.loop-record.invariant.3 tt c.in-ok-put-record.ensures)
+    (omega (arith, same), omega arith, same, appended_more c.args.out.now _ _ (record_line (decoded c.in-Some.record.now)) (record_lines (chunks_exact_rest c.next.new.self)) more c.loop-record.out c.put_record.new.out c.loop-record.invariant.3 tt c.in_ok-put_record.ensures)
 
-pub returns-in-err-put-record : goal.returns-in-err-put-record
-returns-in-err-put-record c =
+pub returns-in_err-put_record : goal.returns-in_err-put_record
+returns-in_err-put_record c =
     let steps = c.in-Some.ensures.steps in
     let size = c.loop-record.invariant.2 in
     let more = record_lines_more (chunks_exact_rest c.loop-record.record-iterator) c.in-Some.record.now (chunks_exact_rest c.next.new.self) steps.1.0 (steps.1.1 ∙ size) in
-    appended_short c.args.out.now _ _ (record_line (decoded c.in-Some.record.now)) (record_lines (chunks_exact_rest c.next.new.self)) more c.loop-record.out _ c.loop-record.invariant.3 c.in-err-put-record.field-0.0 _ c.from-residual.ensures.0 c.in-err-put-record.ensures
+    appended_short c.args.out.now _ _ (record_line (decoded c.in-Some.record.now)) (record_lines (chunks_exact_rest c.next.new.self)) more c.loop-record.out _ c.loop-record.invariant.3 c.in_err-put_record.field-0.0 _ c.from_residual.ensures.0 c.in_err-put_record.ensures
 
 pub returns : goal.returns
 returns c =
