@@ -1,5 +1,5 @@
 -- The record of a hand-in: eight bytes, which are decoded as its ticket. Assumes nothing.
-use Rattle.std.proofs.Common.{◌≡◌, ◌+◌, ◌*◌, ◌^◌, ◌<◌, List, [], ◌∷◌, ◌++◌, length, sym, refl, ap, ◌∙◌, append_assoc, append-nil, arith, length-append, rules}
+use Rattle.std.proofs.Common.{◌≡◌, ◌*◌, ◌^◌, ◌<◌, List, [], ◌∷◌, ◌++◌, length, sym, refl, ap, ◌∙◌, append_assoc, append-nil, arith, length-append, rules}
 use Rattle.ticket.specs.Tickets.{decoded_in}
 use Rattle.day_reader.specs.declared.hand_in.HandIn.{HandIn}
 use Rattle.day_reader.specs.HandIns.{record_of, records_of, ticket_if_known}
