@@ -9,7 +9,7 @@ loop-at-preserved-in-Ok c =
       b.place.1,
       c.loop-at.invariant.1
           ∙ handler_on (labels_in c.args.table.now) c.args.rows.now c.args.terms.now c.loop-at.at c.in-Handler.c (Ok c.in-Ok.next) c.loop-at-test.true c.in-Handler.is
-          (rw c.channel-level-x.ensures at b.leak),
+          (rw c.channel_level-x.ensures at b.leak),
     )
 
 pub returns-in-Err : goal.returns-in-Err
@@ -19,13 +19,13 @@ returns-in-Err c =
       value = sym (
           c.loop-at.invariant.1
           ∙ handler_on (labels_in c.args.table.now) c.args.rows.now c.args.terms.now c.loop-at.at c.in-Handler.c (Err c.in-Err.leak) c.loop-at-test.true c.in-Handler.is
-          (rw c.channel-level-x.ensures at b.leak));
+          (rw c.channel_level-x.ensures at b.leak));
       place = b.place;
     }
 
 pub loop-at-preserved : goal.loop-at-preserved
 loop-at-preserved c =
-    (omega arith, c.loop-at.invariant.1 ∙ outside (labels_in c.args.table.now) c.args.rows.now c.args.terms.now c.loop-at.at c.loop-at-test.true c.in-default.not-Handler)
+    (omega arith, c.loop-at.invariant.1 ∙ outside (labels_in c.args.table.now) c.args.rows.now c.args.terms.now c.loop-at.at c.loop-at-test.true c.in_default.not-Handler)
 
 pub returns : goal.returns
 returns c = record {

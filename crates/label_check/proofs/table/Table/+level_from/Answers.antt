@@ -15,18 +15,18 @@ bounds-self-v t c =
     let P : List Expr → Type 0 = λ es. InRange (first_expression es) in
     subst P e c.requires.ranged
 
-pub level-from-left-requires : goal.level-from-left-requires
-level-from-left-requires t c =
+pub level_from-left-requires : goal.level_from-left-requires
+level_from-left-requires t c =
     let p = two_parts c.in-Operator.field-0 c.args.terms.now c.args.at Input c.requires.within c.in-Operator.is c.requires.whole c.requires.ranged in
     let w = expression_is_within c.args.terms.now (c.args.at + 1) p.operands.left in
     (omega arith, (c.requires.ready, (w, (p.operands.left, (p.left_ranged, c.requires.input)))))
 
-pub level-from-right-requires : goal.level-from-right-requires
-level-from-right-requires t c =
+pub level_from-right-requires : goal.level_from-right-requires
+level_from-right-requires t c =
     let p = two_parts c.in-Operator.field-0 c.args.terms.now c.args.at Input c.requires.within c.in-Operator.is c.requires.whole c.requires.ranged in
-    let some : 0 < length (expressions (drop c.level-from-left.result.1 c.args.terms.now)) = rw c.level-from-left.ensures.rest p.operands.right in
-    let w = expression_is_within c.args.terms.now c.level-from-left.result.1 some in
-    (omega arith, (c.requires.ready, (w, (some, (rw c.level-from-left.ensures.rest p.right_ranged, c.requires.input)))))
+    let some : 0 < length (expressions (drop c.level_from-left.result.1 c.args.terms.now)) = rw c.level_from-left.ensures.rest p.operands.right in
+    let w = expression_is_within c.args.terms.now c.level_from-left.result.1 some in
+    (omega arith, (c.requires.ready, (w, (some, (rw c.level_from-left.ensures.rest p.right_ranged, c.requires.input)))))
 
 pub returns-in-Input : goal.returns-in-Input
 returns-in-Input t c =
@@ -46,8 +46,8 @@ returns-in-Variable t c =
 pub returns-in-Operator : goal.returns-in-Operator
 returns-in-Operator t c =
     let p = two_parts c.in-Operator.field-0 c.args.terms.now c.args.at Input c.requires.within c.in-Operator.is c.requires.whole c.requires.ranged in
-    let a = c.level-from-left.ensures in
-    let b = c.level-from-right.ensures in
+    let a = c.level_from-left.ensures in
+    let b = c.level_from-right.ensures in
     let labels = labels_in c.args.self.now in
     record {
       level = c.join.ensures.value
