@@ -7,10 +7,10 @@ use Rattle.label_report.proofs.report_choice.Goals as goal
 
 pub returns-in-Chain : goal.returns-in-Chain
 returns-in-Chain c =
-    subst (λ (s : SchemeChoice). Appends c.args.out.now (under (levels_of (size_of s)) c.args.sheet.now c.args.program.now) c.report-under.result c.report-under.new.out)
-    (sym c.in-Chain.is) c.report-under.ensures
+    subst (λ (s : SchemeChoice). Appends c.args.out.now (under (levels_of (size_of s)) c.args.sheet.now c.args.program.now) c.report_under.result c.report_under.new.out)
+    (sym c.in-Chain.is) c.report_under.ensures
 
 pub returns-in-Parties : goal.returns-in-Parties
 returns-in-Parties c =
-    subst (λ (s : SchemeChoice). Appends c.args.out.now (under (levels_of (size_of s)) c.args.sheet.now c.args.program.now) c.report-under-in-Parties.result c.report-under-in-Parties.new.out)
-    (sym c.in-Parties.is) c.report-under-in-Parties.ensures
+    subst (λ (s : SchemeChoice). Appends c.args.out.now (under (levels_of (size_of s)) c.args.sheet.now c.args.program.now) c.report_under-in-Parties.result c.report_under-in-Parties.new.out)
+    (sym c.in-Parties.is) c.report_under-in-Parties.ensures

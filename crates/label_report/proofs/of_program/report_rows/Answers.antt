@@ -16,8 +16,8 @@ returns g c p enough within held =
     let sheet = c.args.sheet.now in
     let m = c.load.new.self in
     let tables = loaded_tables p c.args.rows.now c.args.terms.now c.load.result m c.load.ensures.accepts enough within held in
-    let same : c.check-labels.result ≡ checked L sheet (flat_rows p) (flat_terms p) =
-    c.check-labels.ensures.value
+    let same : c.check_labels.result ≡ checked L sheet (flat_rows p) (flat_terms p) =
+    c.check_labels.ensures.value
     ∙ ap (λ (rs : List Row). checked L sheet rs (terms_of m)) tables.0
     ∙ ap (λ (ts : List Term). checked L sheet (flat_rows p) ts) tables.1 in
-    subst (λ (a : Result (Unit {0}) Fault). Appends c.args.out.now (answer_line a) c.put-answer.result c.put-answer.new.out) same c.put-answer.ensures
+    subst (λ (a : Result (Unit {0}) Fault). Appends c.args.out.now (answer_line a) c.put_answer.result c.put_answer.new.out) same c.put_answer.ensures
