@@ -1,17 +1,17 @@
 -- The level of a batch, ticket by ticket, and that it is the least above them. Assumes nothing.
-use Rattle.std.proofs.Common.{◌≡◌, ℕ, ◌/◌, ◌<◌, true, List, [], ◌∷◌, ◌++◌, map, length, get_or, Ok, Err, Result, sym, refl, ap, ◌∙◌, arith, rules}
+use Rattle.std.proofs.Common.{◌≡◌, ℕ, ◌/◌, ◌<◌, true, List, [], ◌∷◌, ◌++◌, map, length, get_or, Ok, Err, Result, refl, arith, rules}
 use Rattle.std.specs.List.{AllByRecursion as All}
 use Rattle.fault.specs.declared.Fault.{Fault}
 use Rattle.fault.specs.Faults.{then}
 use Rattle.levels.specs.Scheme.{Levels, Below, Lattice}
 use Rattle.levels.specs.Lattices.{lowest_level, join_level}
 use Rattle.sheet.specs.declared.LevelSheet.{LevelSheet}
-use Rattle.sheet.specs.Sheets.{channel_level, has_sheet, checked}
+use Rattle.sheet.specs.Sheets.{has_sheet, checked}
 use Rattle.sheet.proofs.Each.{channel_level_below}
 use Rattle.ticket.specs.declared.Ticket.{Ticket}
 use Rattle.ticket.specs.Tickets.{decoded}
-use Rattle.batch.specs.Batches.{tickets_of, batch, Carries}
-use Rattle.batch.specs.Level.{ticket_level, join_each, join_tickets, batch_level, LeastAbove, Levelled}
+use Rattle.batch.specs.Batches.{tickets_of, batch}
+use Rattle.batch.specs.Level.{ticket_level, join_each, join_tickets, LeastAbove, Levelled}
 use Rattle.batch.proofs.Batches.{tickets_more, tickets_none, batch_carries, batch_reads}
 
 then_push : {Y : Type 0} (r : Result (List Ticket) Fault) (t : Ticket) (k : List Ticket → Result Y Fault) → then (then r (λ ts. Ok (t ∷ ts))) k ≡ then r (λ ts. k (t ∷ ts))

@@ -1,5 +1,5 @@
 -- Worked examples: what the definitions give on values written out. Assumes nothing.
-use Rattle.std.specs.Prelude.{◌≡◌, ℕ, true, false, List, [], ◌∷◌, Some, Ok, Err}
+use Rattle.std.specs.Prelude.{◌≡◌, false, [], ◌∷◌, Some, Ok, Err}
 use Rattle.fault.specs.declared.Reason.TheVariants as reason
 use Rattle.fault.specs.Faults.{number_of, unplaced}
 use Rattle.language.specs.declared.Operator.TheVariants.{Minus, Round}

@@ -1,13 +1,12 @@
 -- The loops that build rows again, and compare their partners. Assumes nothing.
-use Rattle.std.proofs.Common.{◌≡◌, ℕ, zero, suc, ◌+◌, ◌-◌, ◌<◌, ◌≤◌, Bool, true, false, cond, eqb, leb, List, [], ◌∷◌, ◌++◌, length, get_or, take, drop, Some, None, Ok, Err, Option, Result, sym, refl, ap, ◌∙◌, subst, arith, length-drop}
+use Rattle.std.proofs.Common.{◌≡◌, ℕ, zero, suc, ◌+◌, ◌<◌, ◌≤◌, Bool, true, false, cond, eqb, leb, List, [], ◌∷◌, ◌++◌, length, get_or, take, drop, Some, None, Ok, Err, sym, refl, ap, ◌∙◌, arith, length-drop}
 use Rattle.std.proofs.lemmas.Bool.{eq-eqb, ne_eqb, eqb-true, leb-true}
-use Rattle.std.proofs.lemmas.List.{drop_more, drop_all, length-take-le, take_more}
+use Rattle.std.proofs.lemmas.List.{drop_more, drop_all, length-take-le}
 use Rattle.fault.specs.declared.Fault.{Fault}
 use Rattle.program.specs.declared.rows.Row.{Row}
 use Rattle.program.specs.declared.rows.Term.{Term}
-use Rattle.program.specs.Lines.{Line}
 use Rattle.program.specs.Building.{Tables, tables, start, build, line_from, blank_row}
-use Rattle.program.specs.Nesting.{opened, Below, Adds, Builds}
+use Rattle.program.specs.Nesting.{opened, Below, Builds}
 use Rattle.program.proofs.Adding.{added_ok, added_err}
 use Rattle.program.proofs.Cases.{both_true}
 use Rattle.program.proofs.Tables.{terms_after}

@@ -1,10 +1,9 @@
 -- The flat form of a program is taken. Assumes nothing.
-use Rattle.std.proofs.Common.{◌≡◌, ℕ, zero, suc, ◌+◌, ◌-◌, ◌<◌, ◌≤◌, Bool, true, false, cond, eqb, leb, List, [], ◌∷◌, ◌++◌, map, length, take, drop, Some, None, Ok, Err, Option, Result, sym, refl, ap, ◌∙◌, subst, ⊎_elim, append_assoc, append-nil, arith, length-append, length-drop}
+use Rattle.std.proofs.Common.{◌≡◌, ℕ, ◌+◌, ◌-◌, ◌≤◌, Bool, true, false, cond, eqb, leb, List, [], ◌∷◌, ◌++◌, map, length, take, drop, Some, None, Ok, sym, refl, ap, ◌∙◌, subst, append_assoc, append-nil, arith, length-append}
 use Rattle.std.proofs.lemmas.Bool.{eq-eqb, ne_eqb, le-leb}
 use Rattle.std.proofs.lemmas.List.{length-take-le, take-append-drop}
 use Rattle.std.specs.List.{AllByRecursion as All}
 use Rattle.language.specs.Block.{Tree}
-use Rattle.fault.specs.declared.Fault.{Fault}
 use Rattle.text.specs.Building.{Built}
 use Rattle.program.specs.declared.rows.Kind.{Kind}
 use Rattle.program.specs.declared.rows.Kind.TheVariants.{Skip, Handler, Assign, Output, If, While, Else, Close}
@@ -13,7 +12,7 @@ use Rattle.program.specs.declared.rows.Term.{Term}
 use Rattle.program.specs.declared.rows.Term.TheVariants.{Input, Constant, Variable, Operator}
 use Rattle.program.specs.Terms.{arity_of, Whole, FitTerm, Expression}
 use Rattle.program.specs.Lines.{Line, FitKind, FitLine}
-use Rattle.program.specs.Building.{Tables, tables, start, build, line_from, lines_from}
+use Rattle.program.specs.Building.{Tables, start, build, line_from, lines_from}
 use Rattle.program.specs.Laws.{flat}
 use Rattle.program.specs.Writing.{lines_of, flat_rows, flat_terms, Within}
 use Rattle.program.proofs.Flattening.{lines_lead_to_the_flat_form}

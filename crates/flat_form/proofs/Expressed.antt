@@ -1,9 +1,8 @@
 -- The loop of `is_expression`. Assumes nothing.
-use Rattle.std.proofs.Common.{◌≡◌, ℕ, ◌+◌, ◌-◌, ◌<◌, ◌≤◌, Bool, true, false, cond, eqb, leb, List, [], ◌∷◌, length, get_or, drop, sym, refl, ap, ◌∙◌, arith}
+use Rattle.std.proofs.Common.{◌≡◌, ℕ, ◌+◌, ◌-◌, ◌<◌, ◌≤◌, Bool, true, false, cond, eqb, List, length, get_or, drop, sym, ap, ◌∙◌}
 use Rattle.std.proofs.lemmas.Bool.{eq-eqb, ne_eqb, le-leb}
 use Rattle.std.proofs.lemmas.List.{drop_more, drop_all}
 use Rattle.program.specs.declared.rows.Term.{Term}
-use Rattle.program.specs.declared.rows.Term.TheVariants.{Input}
 use Rattle.program.specs.Terms.{arity_of}
 use Rattle.flat_form.specs.Fitting.{fits_term, makes, expressed}
 

@@ -1,7 +1,7 @@
 -- Tables are taken exactly if they hold the flat form of a program. Assumes nothing.
-use Rattle.std.proofs.Common.{◌≡◌, ℕ, ◌+◌, ◌-◌, ◌<◌, ◌≤◌, Bool, true, false, cond, eqb, leb, List, [], ◌∷◌, ◌++◌, length, take, drop, replicate, Some, None, Option, sym, refl, ap, ◌∙◌, subst, append-nil, arith, length-append, length-drop}
-use Rattle.std.proofs.lemmas.List.{length-take-le, take_at, drop_at, length-replicate, length-map, take_all}
-use Rattle.std.proofs.lemmas.Bool.{leb-true, le-leb, eq-eqb, eqb-true, and_parts, both_ways}
+use Rattle.std.proofs.Common.{◌≡◌, ℕ, ◌+◌, ◌-◌, ◌≤◌, true, cond, leb, List, [], ◌∷◌, length, take, drop, replicate, Some, None, Option, sym, refl, ap, ◌∙◌, subst, arith, length-append, length-drop}
+use Rattle.std.proofs.lemmas.List.{length-take-le, take_at, drop_at, length-map, take_all}
+use Rattle.std.proofs.lemmas.Bool.{le-leb, eq-eqb, eqb-true}
 use Rattle.language.specs.Block.{Tree}
 use Rattle.program.specs.declared.rows.Kind.TheVariants as kind
 use Rattle.program.specs.declared.rows.Row.{Row}
@@ -10,7 +10,7 @@ use Rattle.program.specs.Building.{blank_row, blank_term, line_from}
 use Rattle.program.specs.Laws.{Hold}
 use Rattle.program.specs.Reading.{padded}
 use Rattle.program.specs.Trees.{tree_of}
-use Rattle.program.specs.Writing.{row, tree_rows, block_rows, lines_of, width, flat_rows, flat_terms, Within}
+use Rattle.program.specs.Writing.{row, tree_rows, block_rows, width, flat_rows, flat_terms, Within}
 use Rattle.program.proofs.Cases.{split}
 use Rattle.program.proofs.Filling.{padded_is}
 use Rattle.program.proofs.Programs.{flat_form_tells_the_lines, flat_form_tells_the_program}

@@ -4,7 +4,7 @@ use Rattle.language.specs.Block.{Tree}
 use Rattle.program.specs.declared.rows.Row.{Row}
 use Rattle.program.specs.declared.rows.Term.{Term}
 use Rattle.program.specs.Trees.{tree_of}
-use Rattle.program.specs.Writing.{flat_rows, flat_terms}
+use Rattle.program.specs.Writing.{flat_rows}
 use Rattle.interpreter.specs.Sound.{Sound}
 use Rattle.interpreter.proofs.Flat.{flat_is_sound}
 use Rattle.flat_form.specs.Extents.{is_program}

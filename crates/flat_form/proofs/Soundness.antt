@@ -1,5 +1,5 @@
 -- Rows that are taken are the flat form of a program. Assumes nothing.
-use Rattle.std.proofs.Common.{◌≡◌, ℕ, zero, suc, ◌+◌, ◌-◌, ◌<◌, ◌≤◌, Bool, true, false, cond, eqb, leb, List, [], ◌∷◌, ◌++◌, map, length, take, drop, Some, None, Ok, Err, Option, Result, sym, refl, ap, ◌∙◌, subst, ⊎_elim, append_assoc, append-nil, arith, length-append, length-drop}
+use Rattle.std.proofs.Common.{◌≡◌, ℕ, zero, suc, ◌+◌, ◌-◌, ◌≤◌, true, false, cond, eqb, leb, List, [], ◌∷◌, ◌++◌, map, length, take, drop, Some, None, Ok, Err, Option, Result, sym, refl, ap, ◌∙◌, subst, ⊎_elim, append_assoc, append-nil, arith, length-append, length-drop}
 use Rattle.std.proofs.lemmas.Bool.{eqb-true, eqb-false, leb-true}
 use Rattle.std.proofs.lemmas.List.{length-take-le, map_push, nil_from_length}
 use Rattle.std.specs.List.{AllByRecursion as All}
@@ -13,9 +13,8 @@ use Rattle.program.specs.declared.rows.Term.{Term}
 use Rattle.program.specs.declared.rows.Term.TheVariants.{Input, Constant, Variable, Operator}
 use Rattle.program.specs.Terms.{arity_of, Whole, FitTerm, Expression}
 use Rattle.program.specs.Lines.{Line, FitKind, FitLine}
-use Rattle.program.specs.Building.{Tables, tables, start, build, line_from, lines_from, linked_at, added}
-use Rattle.program.specs.Laws.{flat}
-use Rattle.program.specs.Trees.{program_of, tree_of}
+use Rattle.program.specs.Building.{Tables, start, build, line_from, lines_from, linked_at}
+use Rattle.program.specs.Trees.{program_of}
 use Rattle.program.specs.Writing.{flat_rows, flat_terms, Within}
 use Rattle.program.proofs.Cases.{split, both_true}
 use Rattle.program.proofs.Programs.{built_is_flat}

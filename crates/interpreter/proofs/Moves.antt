@@ -1,5 +1,5 @@
 -- A reaction before and after one step. Assumes nothing.
-use Rattle.std.proofs.Common.{◌≡◌, ℕ, ◌-◌, ◌<◌, Bool, true, false, ltb, length, sym, refl, ap, ◌∙◌, arith, length-take}
+use Rattle.std.proofs.Common.{◌≡◌, ℕ, ◌<◌, Bool, true, false, ltb, length, sym, refl, ap, ◌∙◌, arith, length-take}
 use borrow.Author.Tests.{true-ltb, false-ltb}
 use Rattle.std.proofs.lemmas.List.{take_more_set}
 use Rattle.language.specs.Block.{Block, skip, assign, output, branch, repeat, ◌⨟◌}

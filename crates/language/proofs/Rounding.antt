@@ -1,8 +1,8 @@
 -- The rounded value is the nearest multiple. Assumes nothing.
-use Rattle.std.proofs.Common.{◌≡◌, ℕ, suc, ◌+◌, ◌-◌, ◌*◌, ◌/◌, ◌%◌, ◌^◌, ◌<◌, ◌≤◌, cond, eqb, ltb, ◌⊎◌, sym, refl, subst, inl, inr, ⊎_elim, mul-le-mul_right, suc-mul, arith}
+use Rattle.std.proofs.Common.{◌≡◌, ℕ, suc, ◌+◌, ◌*◌, ◌/◌, ◌%◌, ◌^◌, ◌<◌, ◌≤◌, ltb, ◌⊎◌, refl, inl, inr, ⊎_elim, mul-le-mul_right, suc-mul, arith}
 use Rattle.std.proofs.lemmas.Nat.{div-add-mod', mod_below}
-use Rattle.std.proofs.lemmas.Bool.{cases_lt, cond_both, cond-true, cond-false, ltb-true, ltb-false, eq-eqb, ne_eqb}
-use Rattle.language.specs.Operators.{lower, rounded, distance, Multiple, Nearest, Rounds}
+use Rattle.std.proofs.lemmas.Bool.{cases_lt, cond_both, cond-true, ltb-true, ltb-false, eq-eqb, ne_eqb}
+use Rattle.language.specs.Operators.{lower, rounded, Multiple, Nearest, Rounds}
 
 -- a multiple is at most that of q, or at least that of q + 1
 either_side : (q b k : ℕ) → (k * b ≤ q * b) ⊎ (q * b + b ≤ k * b)

@@ -1,10 +1,10 @@
 -- A run stalls only where its steps are spent or its tickets are all made. Assumes nothing.
-use Rattle.std.proofs.Common.{◌≡◌, ℕ, zero, suc, ◌+◌, ◌-◌, ◌<◌, ◌≤◌, Bool, true, false, cond, ltb, ◌⊎◌, List, [], ◌∷◌, ◌++◌, length, sym, refl, inl, inr, arith, length-append}
+use Rattle.std.proofs.Common.{◌≡◌, ℕ, zero, suc, ◌-◌, ◌≤◌, Bool, true, false, cond, ltb, ◌⊎◌, List, [], ◌∷◌, ◌++◌, length, refl, inl, inr, arith, length-append}
 use Rattle.std.proofs.lemmas.Bool.{ltb-true, ltb-false, false≢true}
 use Rattle.ticket.specs.declared.Ticket.{Ticket}
 use Rattle.language.specs.Block.{Tree, handler_of}
 use Rattle.language.specs.Step.{Command, command, Action, silent, sends, step, is_busy, Ending, ended, stalled, act, iterate, outcome, reaction}
-use Rattle.language.specs.Laws.{StallsOnlySpent, StallsOnlyWhenSpent}
+use Rattle.language.specs.Laws.{StallsOnlyWhenSpent}
 
 -- of n steps some are left; a stall leaves none, or has made sixteen tickets
 abbrev Sparing : ℕ → Ending → Type 0

@@ -1,5 +1,5 @@
 -- The operators of expressions, on values of 32 bits. Assumes nothing.
-use Rattle.std.specs.Prelude.{◌≡◌, ℕ, ◌+◌, ◌-◌, ◌*◌, ◌/◌, ◌%◌, ◌^◌, ◌<◌, ◌≤◌, cond, ◌⊎◌, ◌==◌, nat_lt}
+use Rattle.std.specs.Prelude.{◌≡◌, ℕ, ◌+◌, ◌-◌, ◌*◌, ◌/◌, ◌%◌, ◌^◌, ◌<◌, ◌≤◌, cond, ◌==◌, nat_lt}
 use Rattle.language.specs.declared.Operator.{Operator}
 use Rattle.language.specs.declared.Operator.TheVariants.{Plus, Minus, Times, Equal, Less, Round}
 

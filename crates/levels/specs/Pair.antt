@@ -1,5 +1,5 @@
 -- A pair of schemes: level n is the pair of n / b and n % b, where b counts the right scheme, ordered part by part. Assumes nothing.
-use Rattle.std.specs.Prelude.{ℕ, ◌+◌, ◌*◌, ◌/◌, ◌%◌, Bool, cond, ◌&&◌, nat_le}
+use Rattle.std.specs.Prelude.{◌+◌, ◌*◌, ◌/◌, ◌%◌, Bool, cond, ◌&&◌, nat_le}
 use Rattle.levels.specs.Scheme.{Levels}
 use Rattle.levels.specs.Chain.{chain}
 

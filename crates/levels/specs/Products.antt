@@ -1,10 +1,10 @@
 -- Chains and pairs have the laws of a scheme, a pair since its parts have them. Assumes nothing.
-use Rattle.std.proofs.Common.{◌≡◌, ℕ, ◌+◌, ◌*◌, ◌/◌, ◌%◌, ◌<◌, ◌≤◌, Bool, true, false, cond, ◌&&◌, ltb, leb, Some, None, sym, refl, ap, ◌∙◌, ⊎_elim, div-lt_iff_lt-mul, arith, rules}
+use Rattle.std.proofs.Common.{◌≡◌, ℕ, ◌+◌, ◌*◌, ◌/◌, ◌%◌, ◌<◌, ◌≤◌, true, false, ◌&&◌, ltb, leb, Some, None, sym, ap, ◌∙◌, ⊎_elim, div-lt_iff_lt-mul, arith, rules}
 use mathlib.Core.Path.{subst⁻¹}
 use lib.Arith.{digits_lt}
 use Rattle.std.proofs.lemmas.Nat.{div-mul-add, mod-mul-add, div_below, mod_below, div-add-mod', mul-le}
 use Rattle.std.proofs.lemmas.Bool.{and_parts, and_from, cond_both, leb-true, lt-ltb, cond-true, cond-false, le-ltb, cases_lt}
-use Rattle.levels.specs.Scheme.{Levels, Below, Sized, Proper, Reflexive, Antisymmetric, Transitive, Bottom, Least, Joins, Lattice, join_of}
+use Rattle.levels.specs.Scheme.{Levels, Below, Proper, Reflexive, Antisymmetric, Transitive, Bottom, Joins, Lattice, join_of}
 use Rattle.levels.specs.Chain.{chain}
 use Rattle.levels.specs.Pair.{product, is_pair, pair}
 use Rattle.levels.specs.Lattices.{lowest_level, join_level, join_some, some_join, cond_none}

@@ -1,5 +1,5 @@
 -- A scheme of levels: the numbers below its count, ordered by the relation "at or below". Assumes nothing.
-use Rattle.std.specs.Prelude.{◌≡◌, ℕ, ◌<◌, ◌≤◌, Bool, true, cond, ◌&&◌, List, [], ◌∷◌, Some, None, Option, nat_lt}
+use Rattle.std.specs.Prelude.{◌≡◌, ℕ, ◌<◌, ◌≤◌, Bool, true, cond, ◌&&◌, Some, None, Option, nat_lt}
 
 -- count and order are the whole meaning: the laws below leave one choice for the lowest level and for each join
 pub record Levels : Type 0 where

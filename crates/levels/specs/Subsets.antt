@@ -1,8 +1,8 @@
 -- The laws of a scheme of parties, by a test of every set of four parties that antt computes. Assumes nothing.
-use Rattle.std.proofs.Common.{◌≡◌, ℕ, zero, suc, ◌+◌, ◌*◌, ◌^◌, ◌<◌, ◌≤◌, Bool, true, false, cond, not, ◌&&◌, ◌||◌, eqb, ltb, leb, sym, refl, ap, ◌∙◌, ⊎_elim, arith, pow_pos, pow_mono}
-use lib.Bits.{bit_and, bit_or, and_self, and_comm, and_le_r, or_lt}
+use Rattle.std.proofs.Common.{◌≡◌, ℕ, zero, suc, ◌^◌, ◌<◌, ◌≤◌, Bool, true, false, ◌&&◌, eqb, refl, ⊎_elim, arith, pow_pos, pow_mono}
+use lib.Bits.{bit_and, bit_or, and_self, and_le_r, or_lt}
 use Rattle.std.proofs.lemmas.Bool.{and_parts, and_from, eqb-true, eq-eqb, ltb-true, lt-ltb, cases_eq, false≢true}
-use Rattle.levels.specs.Scheme.{Levels, Below, Sized, Proper, Reflexive, Antisymmetric, Transitive, Bottom, Least, Joins, Lattice}
+use Rattle.levels.specs.Scheme.{Below, Proper, Lattice}
 use Rattle.levels.specs.Parties.{parties}
 
 -- the test passes at each number below n

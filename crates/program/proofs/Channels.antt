@@ -1,5 +1,5 @@
 -- Lines that are put one after the other have one handler a channel. Assumes nothing.
-use Rattle.std.proofs.Common.{◌≡◌, ℕ, zero, suc, Bool, true, false, cond, eqb, List, [], ◌∷◌, ◌++◌, length, sym, refl, ap, ◌∙◌, subst, ⊎_elim}
+use Rattle.std.proofs.Common.{◌≡◌, ℕ, zero, suc, true, false, cond, eqb, List, [], ◌∷◌, ◌++◌, length, sym, refl, ap, ◌∙◌, subst, ⊎_elim}
 use Rattle.language.specs.Block.{Block, Tree}
 use Rattle.program.specs.declared.rows.Kind.{Kind}
 use Rattle.program.specs.declared.rows.Kind.TheVariants as kind

@@ -1,6 +1,6 @@
 -- The loop that reads the lines of a text into lent tables. Assumes nothing.
 use Rattle.std.proofs.Common.{◌≡◌, ℕ, ◌+◌, ◌-◌, ◌<◌, ◌≤◌, true, cond, List, [], ◌∷◌, ◌++◌, length, take, drop, replicate, Ok, Err, Result, sym, refl, ap, ◌∙◌, subst, arith}
-use Rattle.std.proofs.lemmas.List.{drop-drop, drop-replicate, length-take-le, take-append-drop, take_all}
+use Rattle.std.proofs.lemmas.List.{drop-drop, drop-replicate, length-take-le, take-append-drop}
 use Rattle.std.proofs.lemmas.Bool.{le-leb}
 use Rattle.fault.specs.declared.Fault.{Fault}
 use Rattle.fault.specs.declared.Reason.TheVariants as reason
@@ -13,9 +13,9 @@ use Rattle.text.specs.Texts.{strict, on_lines}
 use Rattle.program.specs.declared.rows.Row.{Row}
 use Rattle.program.specs.declared.rows.Term.{Term}
 use Rattle.program.specs.Lines.{parse}
-use Rattle.program.specs.Building.{blank_row, blank_term, Tables, tables, start, build}
+use Rattle.program.specs.Building.{blank_row, blank_term, Tables, tables, build}
 use Rattle.program.specs.Nesting.{opened, Below}
-use Rattle.program.specs.Reading.{open_end, ended, tables_in, reading, padded, Goes_on, Filled}
+use Rattle.program.specs.Reading.{ended, tables_in, reading, padded, Goes_on, Filled}
 use Rattle.program.proofs.Stacks.{popped}
 
 -- j rows and `used` terms are read, blanks follow them, and what is left gives the result

@@ -1,5 +1,5 @@
 -- The lines of a program lead to its flat form. Assumes nothing.
-use Rattle.std.proofs.Common.{◌≡◌, ℕ, ◌+◌, ◌-◌, ◌<◌, ◌≤◌, Bool, true, false, cond, eqb, leb, List, [], ◌∷◌, ◌++◌, length, get_or, Some, None, Option, sym, refl, ap, ◌∙◌, subst, append_assoc, append-nil, arith, length-append}
+use Rattle.std.proofs.Common.{◌≡◌, ℕ, ◌+◌, ◌-◌, ◌<◌, ◌≤◌, Bool, true, false, cond, eqb, leb, List, [], ◌∷◌, ◌++◌, length, get_or, Some, None, sym, refl, ap, ◌∙◌, subst, append_assoc, append-nil, arith, length-append}
 use Rattle.std.proofs.lemmas.List.{length_push, get_or_at, set_at}
 use Rattle.std.proofs.lemmas.Bool.{le-leb, lt-leb}
 use Rattle.std.specs.List.{AllByRecursion as All}
@@ -10,9 +10,9 @@ use Rattle.program.specs.declared.rows.Kind.TheVariants as kind
 use Rattle.program.specs.declared.rows.Row.{Row}
 use Rattle.program.specs.declared.rows.Term.{Term}
 use Rattle.program.specs.Lines.{Line}
-use Rattle.program.specs.Building.{blank_row, Tables, tables, start, linked_at, is_if, opens, turns, closes, nested, is_handler_of, has_handler, is_twice, has_room, added}
+use Rattle.program.specs.Building.{blank_row, Tables, tables, start, linked_at, is_if, opens, nested, is_handler_of, has_handler, is_twice, has_room}
 use Rattle.program.specs.Laws.{flat}
-use Rattle.program.specs.Writing.{terms_of, else_line, close_line, block_lines, lines_of, all_terms, row, width, block_rows, tree_rows, FitSecond, FitBlock, FitHandler, is_listed, Once, Within}
+use Rattle.program.specs.Writing.{terms_of, else_line, close_line, block_lines, lines_of, all_terms, row, width, block_rows, tree_rows, FitBlock, FitHandler, is_listed, Once, Within}
 use Rattle.program.proofs.Runs.{Steps, Runs, steps, runs_append}
 
 -- the terms of lines

@@ -1,25 +1,25 @@
 -- A line is read exactly as it is written. Assumes nothing.
-use Rattle.std.proofs.Common.{◌≡◌, ℕ, ◌+◌, ◌^◌, ◌<◌, ◌≤◌, Bool, true, false, cond, eqb, leb, List, [], ◌∷◌, ◌++◌, map, length, Some, None, Ok, Err, decimal, Option, Result, sym, refl, ap, ◌∙◌, subst, append-nil, arith}
+use Rattle.std.proofs.Common.{◌≡◌, ℕ, ◌+◌, ◌^◌, ◌<◌, ◌≤◌, true, eqb, List, [], ◌∷◌, ◌++◌, map, length, Ok, Err, decimal, Result, sym, refl, ap, ◌∙◌, subst, append-nil, arith}
 use Rattle.std.proofs.lemmas.Bool.{eqb-true}
 use Rattle.std.specs.List.{AllByRecursion as All}
 use Rattle.fault.specs.declared.Fault.{Fault}
 use Rattle.fault.specs.Faults.{then}
-use Rattle.fault.proofs.Then.{then_ok, ok_then, same_ok}
+use Rattle.fault.proofs.Then.{then_ok, ok_then}
 use Rattle.language.specs.declared.Operator as language
 use Rattle.language.specs.declared.Operator.TheVariants.{Plus, Minus, Times, Equal, Less, Round}
 use Rattle.text.specs.Lines.{all_printable}
-use Rattle.text.specs.Pieces.{pieces, joined, marked}
+use Rattle.text.specs.Pieces.{pieces, joined}
 use Rattle.text.specs.Places.{letter_at}
 use Rattle.text.specs.Reading.{tail_of, read_letter, read_number, read_end}
 use Rattle.text.proofs.Cutting.{Free, pieces_rejoin, joined_pieces_part}
 use Rattle.text.proofs.Decimals.{decimal_is_digits}
-use Rattle.text.proofs.Printing.{digits_are_free, digits_are_printable, printable_marked, printable_is_free}
+use Rattle.text.proofs.Printing.{digits_are_free, digits_are_printable}
 use Rattle.text.proofs.Taking.{letter_read_is_first, number_read_is_first, first_decimal_is_read, end_read_is_no_field}
 use Rattle.program.specs.declared.rows.Kind.{Kind}
 use Rattle.program.specs.declared.rows.Kind.TheVariants.{Skip, Handler, Assign, Output, If, While, Else, Close}
 use Rattle.program.specs.declared.rows.Term.{Term}
 use Rattle.program.specs.declared.rows.Term.TheVariants.{Input, Constant, Variable, Operator}
-use Rattle.program.specs.Terms.{expression_from, term_bytes, operator_byte, FitTerm, Expression}
+use Rattle.program.specs.Terms.{expression_from, term_bytes, FitTerm, Expression}
 use Rattle.program.specs.Lines.{Line, whole_from, alone, tested, aimed_from, aimed, handler, by_letter, line_in, parse, letter_byte, target_of, fields_of, line_bytes, FitKind, FitLine}
 use Rattle.program.proofs.Cases.{split}
 use Rattle.program.proofs.Expressions.{expression_read_is_written, written_expression_is_read}

@@ -1,5 +1,5 @@
 -- Lines that are put one after the other, and leave nothing open, open and close blocks in order. Assumes nothing.
-use Rattle.std.proofs.Common.{◌≡◌, ℕ, zero, suc, ◌+◌, ◌<◌, ◌≤◌, Bool, true, false, cond, eqb, leb, List, [], ◌∷◌, ◌++◌, length, get_or, Some, None, sym, refl, ap, ◌∙◌, subst, arith, length-set}
+use Rattle.std.proofs.Common.{◌≡◌, ℕ, zero, suc, ◌<◌, ◌≤◌, Bool, true, false, leb, List, [], ◌∷◌, ◌++◌, length, get_or, Some, None, sym, refl, ap, ◌∙◌, subst, arith, length-set}
 use Rattle.std.proofs.lemmas.List.{length_push, get_or_at, get_or_append_left}
 use Rattle.std.proofs.lemmas.Bool.{leb-false}
 use Rattle.std.specs.List.{AllByRecursion as All}
@@ -7,14 +7,12 @@ use Rattle.program.specs.declared.rows.Kind.{Kind}
 use Rattle.program.specs.declared.rows.Kind.TheVariants as kind
 use Rattle.program.specs.declared.rows.Row.{Row}
 use Rattle.program.specs.Lines.{Line}
-use Rattle.program.specs.Building.{blank_row, Tables, linked_at, is_if, inside, begins, opens, turns, closes, nested, is_handler_of, has_handler, is_twice, added}
-use Rattle.program.specs.Trees.{program_of}
-use Rattle.program.specs.Writing.{row, is_listed, Once}
+use Rattle.program.specs.Building.{blank_row, Tables, linked_at, is_if, inside, begins, opens, turns, closes, nested}
+use Rattle.program.specs.Writing.{row}
 use Rattle.program.proofs.Cases.{split}
-use Rattle.program.proofs.Flattening.{Channels, handler_append}
 use Rattle.program.proofs.Ordering.{Moves, Ordered}
-use Rattle.program.proofs.Runs.{Steps, Runs}
-use Rattle.program.proofs.Tables.{Pair, none_is, Same, nested_same, build_ok}
+use Rattle.program.proofs.Runs.{Runs}
+use Rattle.program.proofs.Tables.{Pair, none_is, build_ok}
 
 -- whether an Else may come, for each open row
 abbrev marks : List Row → List ℕ → List Bool

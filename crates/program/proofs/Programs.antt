@@ -1,5 +1,5 @@
 -- Reading a program inverts writing it. Assumes nothing.
-use Rattle.std.proofs.Common.{◌≡◌, ℕ, ◌-◌, ◌≤◌, Bool, true, false, cond, leb, List, [], ◌∷◌, ◌++◌, map, length, replicate, Ok, Err, Result, sym, refl, ap, ◌∙◌, subst, arith, length-append}
+use Rattle.std.proofs.Common.{◌≡◌, ℕ, ◌-◌, ◌≤◌, Bool, true, false, cond, leb, List, [], ◌∷◌, map, length, replicate, Ok, Err, Result, sym, refl, ap, ◌∙◌, subst, arith, length-append}
 use lib.ListN.{length-replicate}
 use Rattle.std.proofs.lemmas.List.{length-map}
 use Rattle.std.proofs.lemmas.Bool.{leb-true, le-leb, and_parts, both_ways}
@@ -20,10 +20,10 @@ use Rattle.program.specs.declared.rows.Row.{Row}
 use Rattle.program.specs.declared.rows.Term.{Term}
 use Rattle.program.specs.Lines.{Line, parse, line_bytes, FitLine}
 use Rattle.program.specs.Building.{blank_row, blank_term, Tables, start, build, line_from, lines_from}
-use Rattle.program.specs.Laws.{Writes, flat, Hold, Accepts, Inverts, ReadingInvertsWriting, FlatFormTellsTheProgram, TextTellsTheProgram}
+use Rattle.program.specs.Laws.{Writes, flat, Hold, Accepts, ReadingInvertsWriting, FlatFormTellsTheProgram, TextTellsTheProgram}
 use Rattle.program.specs.Reading.{ended, tables_in, reading, padded, counted, rows_left, terms_left, enough, answer, rows_after, terms_after}
 use Rattle.program.specs.Trees.{program_of, tree_of}
-use Rattle.program.specs.Writing.{block_lines, lines_of, all_terms, written, flat_rows, flat_terms, FitBlock, FitHandler, Within}
+use Rattle.program.specs.Writing.{block_lines, lines_of, all_terms, flat_rows, flat_terms, FitBlock, FitHandler, Within}
 use Rattle.program.proofs.Channels.{runs_have_one_handler_a_channel}
 use Rattle.program.proofs.Flattening.{lines_lead_to_the_flat_form}
 use Rattle.program.proofs.Lines.{line_read_is_written, written_line_is_read}

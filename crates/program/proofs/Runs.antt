@@ -1,17 +1,14 @@
 -- Lines put one after the other, with no word of their numbers. Assumes nothing.
-use Rattle.std.proofs.Common.{◌≡◌, ℕ, ◌+◌, ◌<◌, ◌≤◌, true, false, cond, leb, List, [], ◌∷◌, ◌++◌, length, Some, Ok, Err, Result, sym, refl, ap, ◌∙◌, subst, arith, length-append}
-use Rattle.std.proofs.lemmas.List.{length_push}
+use Rattle.std.proofs.Common.{◌≡◌, ℕ, ◌+◌, ◌<◌, ◌≤◌, true, false, cond, leb, List, [], ◌∷◌, ◌++◌, length, Some, Ok, Err, sym, ap, ◌∙◌, subst, arith, length-append}
 use Rattle.std.proofs.lemmas.Bool.{leb-true, leb-false}
-use Rattle.fault.specs.declared.Fault.{Fault}
 use Rattle.fault.specs.Faults.{then}
 use Rattle.fault.proofs.Then.{same_ok}
 use Rattle.text.specs.Building.{Built}
 use Rattle.text.specs.Places.{nest_at, twice_at, full_at}
 use Rattle.text.specs.Reading.{or_refused}
-use Rattle.program.specs.declared.rows.Row.{Row}
 use Rattle.program.specs.declared.rows.Term.{Term}
 use Rattle.program.specs.Lines.{Line}
-use Rattle.program.specs.Building.{Tables, tables, nested, is_twice, has_room, added, build}
+use Rattle.program.specs.Building.{Tables, nested, is_twice, has_room, added, build}
 use Rattle.program.specs.Writing.{all_terms}
 use Rattle.program.proofs.Cases.{split}
 use Rattle.program.proofs.Tables.{Pair, build_ok, terms_after, length_after}

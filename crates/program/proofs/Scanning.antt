@@ -4,8 +4,8 @@ use Rattle.std.specs.List.{AllByRecursion as All}
 use Rattle.language.specs.Block.{Block, done, skip, assign, output, branch, repeat, ◌⨟◌, Tree}
 use Rattle.language.specs.Expression.{Expr}
 use Rattle.program.specs.Lines.{Line}
-use Rattle.program.specs.Trees.{expression_of, Frame, whole, parted, prefixed, branched, repeated, halved, frames, here, program_of}
-use Rattle.program.specs.Writing.{terms_of, else_line, close_line, block_lines, lines_of, FitSecond, FitBlock, FitHandler}
+use Rattle.program.specs.Trees.{Frame, whole, parted, prefixed, branched, repeated, halved, frames, here, program_of}
+use Rattle.program.specs.Writing.{else_line, close_line, block_lines, lines_of, FitBlock, FitHandler}
 use Rattle.program.proofs.Spelling.{expression_of_its_terms}
 
 before_done : (b : Block) → b ⨟ done ≡ b

@@ -1,5 +1,5 @@
 -- The program that tables stand for, by a scan of its lines from the last to the first. Assumes nothing.
-use Rattle.std.specs.Prelude.{ℕ, true, false, List, [], ◌∷◌}
+use Rattle.std.specs.Prelude.{true, false, List, [], ◌∷◌}
 use Rattle.language.specs.declared.Operator.{Operator}
 use Rattle.language.specs.Block.{Block, done, skip, assign, output, branch, repeat, Tree}
 use Rattle.language.specs.Expression.{Expr, input, constant, variable, binary}

@@ -1,9 +1,9 @@
 -- What the reader's answer says of what was read. Assumes nothing.
-use Rattle.std.proofs.Common.{◌≡◌, ℕ, List, replicate, Ok, Err, Result, sym, refl, ap, ◌∙◌, arith}
+use Rattle.std.proofs.Common.{◌≡◌, ℕ, List, replicate, Ok, Err, Result, sym, refl, ap}
 use Rattle.fault.specs.declared.Fault.{Fault}
 use Rattle.fault.proofs.Then.{same_err, ok_not_err}
 use Rattle.switch.specs.declared.line.SwitchLine.{SwitchLine}
-use Rattle.switch.specs.Reading.{blank, reading, counted, padded, answer, lines_after}
+use Rattle.switch.specs.Reading.{blank, reading, counted, answer}
 
 -- 64 lines are lent
 abbrev pub lent : List SwitchLine

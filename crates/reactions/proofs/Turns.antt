@@ -1,8 +1,7 @@
 -- The lines of one reaction, and of the records of a batch. Assumes nothing.
-use Rattle.std.proofs.Common.{◌≡◌, ℕ, suc, ◌+◌, ◌-◌, ◌/◌, ◌<◌, ◌≤◌, List, [], ◌∷◌, ◌++◌, length, take, drop, Ok, Err, Result, sym, refl, ap, ◌∙◌, arith, length-append}
+use Rattle.std.proofs.Common.{◌≡◌, ℕ, suc, ◌+◌, ◌-◌, ◌/◌, ◌<◌, ◌≤◌, List, [], ◌++◌, length, take, drop, sym, refl, ap, ◌∙◌, arith, length-append}
 use Rattle.std.proofs.lemmas.List.{take_at, drop_at}
 use Rattle.std.specs.List.{flat_map}
-use Rattle.fault.specs.declared.Fault.{Fault}
 use Rattle.machine.specs.declared.Reaction.{Reaction}
 use Rattle.machine.specs.Meaning.{Outcome, Meaning}
 use Rattle.machine.specs.Reacting.{Reacts}

@@ -1,5 +1,5 @@
 -- Which lines some text leaves. Assumes nothing.
-use Rattle.std.proofs.Common.{◌≡◌, ℕ, zero, suc, ◌-◌, ◌<◌, ◌≤◌, Bool, true, false, cond, ◌&&◌, eqb, List, [], ◌∷◌, ◌++◌, length, take, drop, replicate, Some, None, Ok, Err, Option, sym, refl, ap, ◌∙◌, subst, arith, rules}
+use Rattle.std.proofs.Common.{◌≡◌, ℕ, zero, suc, ◌-◌, ◌<◌, ◌≤◌, Bool, true, cond, eqb, List, [], ◌∷◌, ◌++◌, length, take, drop, replicate, Some, None, Ok, Err, Option, sym, refl, ap, ◌∙◌, arith}
 use Rattle.std.proofs.ByRecursion.{All-take}
 use Rattle.std.proofs.lemmas.List.{take-append-drop, length-take-le, length-drop, length-append, length-replicate}
 use Rattle.std.proofs.lemmas.Bool.{and_parts, and_from, eqb-true, lt-ltb, le-leb, lt-leb, eq-eqb, false≢true}
@@ -8,10 +8,10 @@ use Rattle.fault.specs.declared.Reason.TheVariants as reason
 use Rattle.fault.specs.Faults.{unplaced}
 use Rattle.switch.specs.declared.line.SwitchLine.{SwitchLine}
 use Rattle.switch.specs.Reading.{sheet_limit, blank, reading, padded}
-use Rattle.switch.specs.Writing.{Fit, Sheet, Makes, written}
+use Rattle.switch.specs.Writing.{Fit, Makes, written}
 use Rattle.switch.proofs.Sheets.{reading_inverts_writing}
 use Rattle.switch_machine.specs.Loading.{Leaves, loading}
-use Rattle.switch_machine.specs.Sound.{each, is_made, is_fit, all_fit, is_none, is_blank, all_blank, is_left}
+use Rattle.switch_machine.specs.Sound.{is_made, is_fit, all_fit, is_none, is_blank, all_blank, is_left}
 
 none_is : (o : Option ℕ) → is_none o ≡ true → o ≡ None
 none_is None e = refl

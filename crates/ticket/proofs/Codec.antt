@@ -1,12 +1,10 @@
 -- Encoding and decoding undo each other. Assumes nothing.
-use Rattle.std.proofs.Common.{◌≡◌, ℕ, ◌+◌, ◌*◌, ◌/◌, ◌%◌, ◌^◌, ◌<◌, Bool, true, false, cond, ◌&&◌, ◌||◌, eqb, ltb, List, [], ◌∷◌, length, get_or, Ok, Err, Result, refl, subst, arith, rules}
+use Rattle.std.proofs.Common.{◌≡◌, ℕ, ◌+◌, ◌*◌, ◌/◌, ◌%◌, ◌^◌, ◌<◌, Bool, true, false, cond, ◌||◌, eqb, ltb, List, [], ◌∷◌, length, get_or, Ok, Err, Result, refl, subst, arith, rules}
 use Rattle.std.proofs.lemmas.List.FromFn.{fill_by_all}
 use Rattle.std.proofs.lemmas.Bool.{and_parts, eqb-true, ltb-true}
 use Rattle.fault.specs.declared.Fault.{Fault}
-use Rattle.fault.specs.declared.Reason.TheVariants as reason
-use Rattle.fault.specs.Faults.{unplaced}
 use Rattle.ticket.specs.declared.Ticket.{Ticket}
-use Rattle.ticket.specs.Tickets.{is_in, mark_of, encoded, is_record, has_channel, value_in, decoded, Proper}
+use Rattle.ticket.specs.Tickets.{mark_of, encoded, is_record, has_channel, value_in, decoded, Proper}
 
 pub decoded_encoded : (t : Ticket) → Proper t → decoded (encoded t) ≡ Ok t
 decoded_encoded t p = search rules

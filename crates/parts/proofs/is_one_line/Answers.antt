@@ -1,5 +1,4 @@
-use Rattle.std.proofs.Common.{◌≡◌, ◌+◌, ◌≤◌, eqb, drop, ap, ◌∙◌, arith}
-use Rattle.parts.specs.Parts.{feeds}
+use Rattle.std.proofs.Common.{eqb, ap, arith}
 use Rattle.parts.proofs.Marks.{feeds_more, feeds_all}
 use Rattle.parts.proofs.is_one_line.Goals as goal
 use Rattle.parts.proofs.is_one_line.Goals.{then-byte-eq10, else-byte-eq10}

@@ -1,4 +1,4 @@
-use Rattle.std.proofs.Common.{◌≡◌, ◌+◌, ◌∷◌, ◌++◌, get_or, drop}
+use Rattle.std.proofs.Common.{◌+◌, ◌∷◌, get_or, drop}
 use Rattle.std.proofs.lemmas.List.{at_drop_more, at_drop_all}
 use Rattle.print.specs.declared.Entry.{Entry}
 use Rattle.print.specs.declared.Entry.TheVariants.{Word}

@@ -1,4 +1,4 @@
-use Rattle.std.proofs.Common.{◌≡◌, ◌+◌, ◌<◌, [], ◌++◌, length, vec_items, sym, refl, ap, ◌∙◌, arith, length-append, rules}
+use Rattle.std.proofs.Common.{◌+◌, ◌<◌, [], ◌++◌, length, vec_items, sym, refl, ap, ◌∙◌, arith, length-append, rules}
 use Rattle.std.specs.Slice.Iter.{chunks_exact_rest}
 use Rattle.std.proofs.lemmas.List.{append-nil}
 use Rattle.print.proofs.Appending.{appended_more, appended_short, appended_whole}

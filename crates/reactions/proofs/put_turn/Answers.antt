@@ -1,10 +1,7 @@
-use Rattle.std.proofs.Common.{◌≡◌, ◌-◌, ◌++◌, take, sym, ap, ◌∙◌}
-use Rattle.std.specs.List.{flat_map}
+use Rattle.std.proofs.Common.{sym, ap, ◌∙◌}
 use Rattle.print.proofs.Appending.{appends_both, appends_first}
-use Rattle.ticket.specs.Tickets.{decoded_in}
-use Rattle.reactions.specs.Reactions.{made_line, end_line, turn_lines, turn_words}
+use Rattle.reactions.specs.Reactions.{turn_lines, turn_words}
 use Rattle.reactions.proofs.Turns.{made_fits, lines_are}
-use Rattle.reactions.proofs.put_turn.Given as given
 use Rattle.reactions.proofs.put_turn.Goals as goal
 
 pub slice_bounds-put_made-end : goal.slice_bounds-put_made-end

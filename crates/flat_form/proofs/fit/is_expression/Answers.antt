@@ -1,4 +1,4 @@
-use Rattle.std.proofs.Common.{◌+◌, ◌-◌, get_or, drop, sym, ap, ◌∙◌, arith, rules}
+use Rattle.std.proofs.Common.{◌+◌, ◌-◌, get_or, drop, sym, ap, ◌∙◌, arith}
 use Rattle.program.specs.declared.rows.Term.TheVariants.{Input}
 use Rattle.program.proofs.Collecting.{arity_two}
 use Rattle.flat_form.specs.Fitting.{makes}

@@ -1,4 +1,4 @@
-use Rattle.std.proofs.Common.{◌≡◌, length, drop}
+use Rattle.std.proofs.Common.{◌≡◌, drop}
 use Rattle.flat_form.specs.Rebuilding.{same_partners}
 use Rattle.flat_form.proofs.rebuild.has_same_partners.Given as goal
 

@@ -1,7 +1,7 @@
 use Rattle.std.proofs.Common.{◌≡◌, List, Result, ap, ◌∙◌, subst}
 use Rattle.fault.specs.declared.Fault.{Fault}
 use Rattle.label_check.specs.Checked.{checked}
-use Rattle.loader.specs.Loading.{rows_of, terms_of}
+use Rattle.loader.specs.Loading.{terms_of}
 use Rattle.loader.proofs.Holding.{loaded_tables}
 use Rattle.print.specs.Appending.{Appends}
 use Rattle.program.specs.declared.rows.Row.{Row}

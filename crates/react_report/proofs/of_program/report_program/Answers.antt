@@ -1,4 +1,4 @@
-use Rattle.std.proofs.Common.{◌≡◌, true, List, Ok, sym, refl, ap, ◌∙◌, subst}
+use Rattle.std.proofs.Common.{◌≡◌, true, List, Ok, sym, ap, ◌∙◌, subst}
 use Rattle.language.specs.Block.{Tree}
 use Rattle.language.specs.Step.{reaction}
 use Rattle.print.specs.Appending.{Appends}

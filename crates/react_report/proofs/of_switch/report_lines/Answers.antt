@@ -1,4 +1,4 @@
-use Rattle.std.proofs.Common.{◌≡◌, List, Result, ap, ◌∙◌, subst}
+use Rattle.std.proofs.Common.{List, Result, ◌∙◌, subst}
 use Rattle.print.specs.Appending.{Appends}
 use Rattle.fault.specs.declared.Fault.{Fault}
 use Rattle.switch.specs.declared.line.SwitchLine.{SwitchLine}

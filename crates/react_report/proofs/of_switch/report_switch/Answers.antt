@@ -1,6 +1,6 @@
-use Rattle.std.proofs.Common.{◌≡◌, List, Ok, sym, ap, ◌∙◌, subst, arith}
+use Rattle.std.proofs.Common.{◌≡◌, List, sym, ap, ◌∙◌, subst, arith}
 use Rattle.print.specs.Appending.{Appends}
-use Rattle.switch.specs.Reading.{reading, padded}
+use Rattle.switch.specs.Reading.{padded}
 use Rattle.switch_machine.specs.Loading.{loading}
 use Rattle.switch_machine.specs.Switching.{switched}
 use Rattle.switch_machine.proofs.Leaving.{read_lines_load}

@@ -1,4 +1,4 @@
-use Rattle.std.proofs.Common.{◌≡◌, ◌/◌, ◌%◌, Some, None, sym, ap, ◌∙◌}
+use Rattle.std.proofs.Common.{Some, sym, ap, ◌∙◌}
 use Rattle.levels.specs.Lattices.{join_answer}
 use Rattle.levels.specs.Products.{pair_join_none, pair_join_some}
 use Rattle.levels.proofs.pair.PairScheme.join.Goals as goal

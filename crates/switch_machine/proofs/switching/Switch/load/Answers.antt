@@ -1,6 +1,6 @@
-use Rattle.std.proofs.Common.{◌≡◌, true, false, ◌&&◌, List, length, drop, Err, sym, refl, ap, ◌∙◌, rules}
+use Rattle.std.proofs.Common.{◌≡◌, true, false, drop, Err, sym, refl, ap, ◌∙◌, rules}
 use Rattle.std.proofs.lemmas.List.{take_rest}
-use Rattle.std.proofs.lemmas.Bool.{le-ltb, lt-leb, and_left, and_right, and_from, both_ways}
+use Rattle.std.proofs.lemmas.Bool.{and_left, and_right, and_from, both_ways}
 use Rattle.switch.specs.Reading.{sheet_limit}
 use Rattle.switch_machine.specs.Sound.{all_fit, all_blank, is_left}
 use Rattle.switch_machine.proofs.Leaving.{left_by_some, leaves_left, loads, too_few}
