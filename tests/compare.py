@@ -20,7 +20,7 @@ PROGRAMS = {
 
 
 def run(program, data):
-    return subprocess.run([ROOT / "target" / "bin" / program], input=data, capture_output=True, timeout=20, check=True).stdout
+    return subprocess.run([ROOT / "crates" / program / "out" / program], input=data, capture_output=True, timeout=20, check=True).stdout
 
 
 def main(cases=2000, first=1):

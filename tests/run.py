@@ -110,7 +110,7 @@ def ticket_bytes(channel, value):
 def difference(program, given, wanted):
     """What is wrong with a run, or None."""
     try:
-        ran = subprocess.run([ROOT / "target" / "bin" / program], input=given, capture_output=True, timeout=10)
+        ran = subprocess.run([ROOT / "crates" / program / "out" / program], input=given, capture_output=True, timeout=10)
     except (OSError, subprocess.TimeoutExpired) as error:
         return str(error)
     if ran.returncode != 0:

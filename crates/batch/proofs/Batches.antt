@@ -2,7 +2,7 @@
 use Rattle.std.proofs.Common.{◌≡◌, ℕ, zero, suc, ◌+◌, ◌*◌, ◌/◌, ◌%◌, ◌<◌, ◌≤◌, eqb, List, [], ◌∷◌, ◌++◌, length, get_or, take, drop, Ok, sym, refl, ap, ◌∙◌, ⊎_elim, arith, length-append}
 use Rattle.std.proofs.lemmas.List.{take_at, drop_at, take-append-drop, get_or-take, get_or-drop, get_or_past, length-take, length-drop, nil_from_length}
 use Rattle.std.proofs.lemmas.Bool.{eq-eqb, eqb-true, cases_lt}
-use Rattle.std.specs.List.{AllByRecursion as All}
+use Rattle.std.specs.List.{AllByRecursion}
 use Rattle.fault.specs.declared.Reason.TheVariants as reason
 use Rattle.fault.specs.Faults.{unplaced, then}
 use Rattle.fault.proofs.Then.{same_ok, cond_ok, then_ok}
@@ -52,7 +52,7 @@ batch_carries bytes ts small e =
     let whole = batch_whole bytes ts e in
     carried (length bytes / 8) bytes ts (omega (arith, whole.0)) small whole.1
 
-reads : (ts : List Ticket) → All Proper ts → tickets_of (length (encoded_all ts) / 8) (encoded_all ts) ≡ Ok ts
+reads : (ts : List Ticket) → AllByRecursion Proper ts → tickets_of (length (encoded_all ts) / 8) (encoded_all ts) ≡ Ok ts
 reads [] all = refl
 reads (t ∷ ts) (here, all) =
     tickets_more (encoded_all (t ∷ ts)) (encoded t) (encoded_all ts) refl refl ∙ rw (decoded_encoded t here, reads ts all)

@@ -1,6 +1,6 @@
 -- The level of a batch, ticket by ticket, and that it is the least above them. Assumes nothing.
 use Rattle.std.proofs.Common.{◌≡◌, ℕ, ◌/◌, ◌<◌, true, List, [], ◌∷◌, ◌++◌, map, length, get_or, Ok, Err, Result, refl, arith, rules}
-use Rattle.std.specs.List.{AllByRecursion as All}
+use Rattle.std.specs.List.{AllByRecursion}
 use Rattle.fault.specs.declared.Fault.{Fault}
 use Rattle.fault.specs.Faults.{then}
 use Rattle.levels.specs.Scheme.{Levels, Below, Lattice}
@@ -33,10 +33,10 @@ module _ {L : Levels} (laws : Lattice L) where
   record LeastOf (j : ℕ) (xs : List ℕ) (m : ℕ) : Type 0 where
     level : m < L.count
     start : Below L j m
-    above : All (λ x. Below L x m) xs
-    least : (c : ℕ) → c < L.count → Below L j c → All (λ x. Below L x c) xs → Below L m c
+    above : AllByRecursion (λ x. Below L x m) xs
+    least : (c : ℕ) → c < L.count → Below L j c → AllByRecursion (λ x. Below L x c) xs → Below L m c
 
-  join_each_least : (j : ℕ) (xs : List ℕ) → j < L.count → All (λ x. x < L.count) xs → LeastOf j xs (join_each L j xs)
+  join_each_least : (j : ℕ) (xs : List ℕ) → j < L.count → AllByRecursion (λ x. x < L.count) xs → LeastOf j xs (join_each L j xs)
   join_each_least j [] h all = record { level = h; start = laws.reflexive j h; above = tt; least = λ c _ below _. below }
   join_each_least j (x ∷ xs) h (here, all) =
       let both = laws.joins j x h here in
@@ -49,7 +49,7 @@ module _ {L : Levels} (laws : Lattice L) where
       }
 
   module _ (sheet : LevelSheet) (has : has_sheet L sheet ≡ true) where
-    known : (ts : List Ticket) → All (λ x. x < L.count) (map (ticket_level sheet) ts)
+    known : (ts : List Ticket) → AllByRecursion (λ x. x < L.count) (map (ticket_level sheet) ts)
     known [] = tt
     known (t ∷ ts) = (channel_level_below laws sheet has t.channel, known ts)
 

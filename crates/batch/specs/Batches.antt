@@ -1,6 +1,6 @@
 -- The tickets in a run of bytes. Assumes nothing.
 use Rattle.std.specs.Prelude.{◌≡◌, ℕ, zero, suc, ◌/◌, ◌%◌, cond, List, [], ◌∷◌, length, take, drop, Ok, Err, Result, ◌==◌}
-use Rattle.std.specs.List.{flat_map, AllByRecursion as All}
+use Rattle.std.specs.List.{flat_map, AllByRecursion}
 use Rattle.fault.specs.declared.Fault.{Fault}
 use Rattle.fault.specs.declared.Reason.TheVariants as reason
 use Rattle.fault.specs.Faults.{unplaced, then}
@@ -22,4 +22,4 @@ encoded_all ts = flat_map encoded ts
 
 -- ts are the tickets that these are the bytes of
 abbrev pub Carries : List ℕ → List Ticket → Type 0
-Carries bytes ts = (bytes ≡ encoded_all ts) × All Proper ts
+Carries bytes ts = (bytes ≡ encoded_all ts) × AllByRecursion Proper ts

@@ -1,6 +1,6 @@
 -- The level of a batch: the least level at or above the level of every ticket in it. Assumes nothing.
 use Rattle.std.specs.Prelude.{◌≡◌, ℕ, ◌/◌, ◌<◌, true, List, [], ◌∷◌, map, length, Ok, Err, Result}
-use Rattle.std.specs.List.{AllByRecursion as All}
+use Rattle.std.specs.List.{AllByRecursion}
 use Rattle.fault.specs.declared.Fault.{Fault}
 use Rattle.fault.specs.Faults.{then}
 use Rattle.levels.specs.Scheme.{Levels, Below}
@@ -31,8 +31,8 @@ batch_level L sheet bytes = then (checked L sheet) (λ _. then (batch bytes) (λ
 -- j is the least level at or above each of the levels xs
 pub record LeastAbove (L : Levels) (xs : List ℕ) (j : ℕ) : Type 0 where
   pub level : j < L.count
-  pub above : All (λ x. Below L x j) xs
-  pub least : (c : ℕ) → c < L.count → All (λ x. Below L x c) xs → Below L j c
+  pub above : AllByRecursion (λ x. Below L x j) xs
+  pub least : (c : ℕ) → c < L.count → AllByRecursion (λ x. Below L x c) xs → Below L j c
 
 -- the answer is the least level above the tickets that the bytes carry; a refusal says that the sheet has a level that the scheme lacks, or that the bytes carry no tickets
 abbrev pub Levelled : Levels → LevelSheet → List ℕ → Result ℕ Fault → Type 0

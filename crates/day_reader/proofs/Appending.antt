@@ -1,7 +1,7 @@
 -- The loop that appends the records of the lines of a text. Assumes nothing.
 use Rattle.std.proofs.Common.{◌≡◌, ℕ, ◌+◌, ◌<◌, ◌≤◌, List, [], ◌∷◌, ◌++◌, length, Ok, Err, vec_items, vec_len, vec_capacity, Vec, sym, refl, ap, ◌∙◌, append_assoc, arith, length-append}
 use Rattle.std.proofs.ByRecursion.{All-push}
-use Rattle.std.specs.List.{AllByRecursion as All}
+use Rattle.std.specs.List.{AllByRecursion}
 use Rattle.std.specs.declared.alloc.Global.{Global}
 use Rattle.text.specs.Building.{two_steps}
 use Rattle.text.specs.Lines.{BeginsWith}
@@ -22,7 +22,7 @@ use Rattle.day_reader.proofs.Records.{records_push}
 -- some lines are read, their records stand at the end, and what is left gives the result
 pub record ReadSoFar (text left : List ℕ) (count : ℕ) (old new : Vec ℕ Global) : Type 0 where
   pub lines : List HandIn
-  pub fit : All Fit lines
+  pub fit : AllByRecursion Fit lines
   pub begins : text ≡ written lines ++ left
   pub short : length text ≤ 8192
   pub few : count + length left ≤ 8192
@@ -35,7 +35,7 @@ module _ {text left : List ℕ} {count : ℕ} {old new : Vec ℕ Global} (s : Re
   line : (p ≡ line_bytes h) × Fit h
   line = line_read_is_writing (count + 1) p h e
 
-  fit_more : All Fit (s.lines ++ h ∷ [])
+  fit_more : AllByRecursion Fit (s.lines ++ h ∷ [])
   fit_more = All-push Fit s.lines h s.fit line.1
 
   begins_more : text ≡ written (s.lines ++ h ∷ []) ++ rest

@@ -2,7 +2,7 @@
 use Rattle.std.proofs.Common.{◌≡◌, ℕ, ◌+◌, ◌≤◌, true, cond, leb, List, [], ◌∷◌, ◌++◌, map, length, Ok, Err, sym, refl, ap, ◌∙◌, subst, append_assoc, append-nil, zero-add, arith}
 use Rattle.std.proofs.ByRecursion.{All-weaker, All-map}
 use Rattle.std.proofs.lemmas.Bool.{leb-true, le-leb}
-use Rattle.std.specs.List.{AllByRecursion as All}
+use Rattle.std.specs.List.{AllByRecursion}
 use Rattle.fault.specs.declared.Reason.TheVariants as reason
 use Rattle.fault.specs.Faults.{unplaced}
 use Rattle.fault.proofs.Then.{same_ok, cond_ok}
@@ -34,13 +34,13 @@ kept_is_built acc n (h ∷ hs) = (
 )
 
 -- what is written of a line that fits is clean, and holds no line feed
-all_clean : (hs : List HandIn) → All Fit hs → All (λ h. is_clean (line_bytes h) ≡ true) hs
+all_clean : (hs : List HandIn) → AllByRecursion Fit hs → AllByRecursion (λ h. is_clean (line_bytes h) ≡ true) hs
 all_clean hs f = All-weaker Fit _ line_is_clean hs f
 
 line_is_free : (h : HandIn) → Fit h → Free 10 (line_bytes h)
 line_is_free h f = clean_is_free (line_bytes h) (line_is_clean h f)
 
-all_free : (hs : List HandIn) → All Fit hs → All (Free 10) (map line_bytes hs)
+all_free : (hs : List HandIn) → AllByRecursion Fit hs → AllByRecursion (Free 10) (map line_bytes hs)
 all_free hs f = All-map (Free 10) line_bytes hs (All-weaker Fit _ line_is_free hs f)
 
 pub reading_is_written : (t : List ℕ) (hs : List HandIn) → reading t ≡ Ok hs → (t ≡ written hs) × Day hs
@@ -50,7 +50,7 @@ reading_is_written t hs e =
     let k = built_is_kept [] hs 0 a.0 a.4 in
     let w : t ≡ written hs = a.1 ∙ ap written k in
     let le = leb-true (length t) 8192 x.0 in
-    (w, record { fit = subst (λ (x : List HandIn). All Fit x) k a.2; short = subst (λ (x : List ℕ). length x ≤ 8192) w le })
+    (w, record { fit = subst (λ (x : List HandIn). AllByRecursion Fit x) k a.2; short = subst (λ (x : List ℕ). length x ≤ 8192) w le })
 
 pub written_is_reading : (t : List ℕ) (hs : List HandIn) → (t ≡ written hs) × Day hs → reading t ≡ Ok hs
 written_is_reading t hs h =
@@ -67,7 +67,7 @@ free_feeds : (p t : List ℕ) → Free 10 p → feeds (p ++ t) ≡ feeds t
 free_feeds [] t f = refl
 free_feeds (b ∷ p) t f = ap (λ x. cond x 1 0 + feeds (p ++ t)) f.0 ∙ zero-add (feeds (p ++ t)) ∙ free_feeds p t f.1
 
-pub feeds_written : (hs : List HandIn) (t : List ℕ) → All Fit hs → feeds (written hs ++ t) ≡ length hs + feeds t
+pub feeds_written : (hs : List HandIn) (t : List ℕ) → AllByRecursion Fit hs → feeds (written hs ++ t) ≡ length hs + feeds t
 feeds_written [] t f = sym (zero-add (feeds t))
 feeds_written (h ∷ hs) t f =
     let r = feeds_written hs t f.1 in

@@ -1,7 +1,7 @@
 -- The records of a day, appended to a growing list of bytes. Assumes nothing.
 use Rattle.std.specs.Prelude.{◌≡◌, ℕ, ◌+◌, ◌<◌, ◌≤◌, List, ◌++◌, length, Ok, Err, vec_items, vec_len, vec_capacity, Result, Vec, ◌≢◌}
 use Rattle.std.specs.declared.alloc.Global.{Global}
-use Rattle.std.specs.List.{AllByRecursion as All}
+use Rattle.std.specs.List.{AllByRecursion}
 use Rattle.fault.specs.declared.Fault.{Fault}
 use Rattle.text.specs.Lines.{text_limit}
 use Rattle.day_reader.specs.declared.error.DayError.{DayError}
@@ -20,7 +20,7 @@ answer (Err f) = Err (Refused f)
 pub record LacksRoom (t : List ℕ) (old : Vec ℕ Global) : Type 0 where
   pub front : List HandIn
   pub rest : List ℕ
-  pub fit : All Fit front
+  pub fit : AllByRecursion Fit front
   pub begins : t ≡ written front ++ rest
   pub short : length t ≤ text_limit
   pub lacks : vec_capacity old < vec_len old + length (records_of front)

@@ -1,6 +1,6 @@
 -- The one text of a day, and what a day may hold. Assumes nothing.
 use Rattle.std.specs.Prelude.{◌≡◌, ℕ, ◌≤◌, List, [], ◌∷◌, map, length, Ok, decimal}
-use Rattle.std.specs.List.{AllByRecursion as All}
+use Rattle.std.specs.List.{AllByRecursion}
 use Rattle.parts.specs.Parts.{feeds}
 use Rattle.text.specs.Lines.{text_limit}
 use Rattle.text.specs.Pieces.{joined}
@@ -23,7 +23,7 @@ written hs = fed (map line_bytes hs)
 
 -- what a day may hold: as many lines as a text has bytes for
 pub record Day (hs : List HandIn) : Type 0 where
-  pub fit : All Fit hs
+  pub fit : AllByRecursion Fit hs
   pub short : length (written hs) ≤ text_limit
 
 -- a text is read as hand-ins exactly if it is the writing of them, and they make a day

@@ -2,7 +2,7 @@
 use Rattle.std.proofs.Common.{◌≡◌, ℕ, ◌+◌, ◌-◌, ◌≤◌, Bool, true, false, cond, eqb, leb, List, [], ◌∷◌, ◌++◌, map, length, take, drop, Some, None, Ok, sym, refl, ap, ◌∙◌, subst, append_assoc, append-nil, arith, length-append}
 use Rattle.std.proofs.lemmas.Bool.{eq-eqb, ne_eqb, le-leb}
 use Rattle.std.proofs.lemmas.List.{length-take-le, take-append-drop}
-use Rattle.std.specs.List.{AllByRecursion as All}
+use Rattle.std.specs.List.{AllByRecursion}
 use Rattle.language.specs.Block.{Tree}
 use Rattle.text.specs.Building.{Built}
 use Rattle.program.specs.declared.rows.Kind.{Kind}
@@ -29,7 +29,7 @@ fit_forth (Constant n) h = le-leb n 4294967295 (omega arith)
 fit_forth (Variable n) h = le-leb n 15 (omega arith)
 fit_forth (Operator o) h = refl
 
-makes_forth : (l : ℕ) (ts : List Term) → Whole l ts → All FitTerm ts → makes l ts ≡ true
+makes_forth : (l : ℕ) (ts : List Term) → Whole l ts → AllByRecursion FitTerm ts → makes l ts ≡ true
 makes_forth l [] w f = eq-eqb l 0 w
 makes_forth l (t ∷ ts) w f =
     let pos = w.0 in
@@ -75,7 +75,7 @@ shaped s n (l ∷ ls) t e =
     ∙ append_assoc (map plain s.rows) (made l.0 (length s.terms) (length l.1) ∷ []) (shape (length e.0.terms) ls)
     ∙ ap (λ k. map plain s.rows ++ made l.0 (length s.terms) (length l.1) ∷ shape k ls) (grown s (n + 1) l e.0 e.1)
 
-runs : (terms : List Term) (s : Tables) (n : ℕ) (rs : List Row) (t : Tables) → map plain rs ≡ shape (length s.terms) (lines_from rs terms) → All FitLine (lines_from rs terms) → Built build s n (lines_from rs terms) t → length t.terms ≤ length terms → again terms s n rs ≡ Some t
+runs : (terms : List Term) (s : Tables) (n : ℕ) (rs : List Row) (t : Tables) → map plain rs ≡ shape (length s.terms) (lines_from rs terms) → AllByRecursion FitLine (lines_from rs terms) → Built build s n (lines_from rs terms) t → length t.terms ≤ length terms → again terms s n rs ≡ Some t
 runs terms s n [] t p f b le = ap (λ x. Some x) b
 runs terms s n (r ∷ rs) t p f b le =
     let l = line_from terms r in
@@ -101,7 +101,7 @@ flat_is_taken p terms m w le e =
     let k = (built_kept start 0 [] (lines_of p) (flat p) (record { within = tt; lines = refl }) b).within in
     let own : lines_from rows terms ≡ lines_of p =
     ap (lines_from rows) (sym (take-append-drop m terms) ∙ ap (λ x. x ++ drop m terms) e) ∙ lines_kept rows (flat_terms p) (drop m terms) k ∙ flat_form_tells_the_lines p w in
-    let fit : All FitLine (lines_from rows terms) = subst (λ (ls : List Line). All FitLine ls) (sym own) (lines_fit p w.handlers_fit) in
+    let fit : AllByRecursion FitLine (lines_from rows terms) = subst (λ (ls : List Line). AllByRecursion FitLine ls) (sym own) (lines_fit p w.handlers_fit) in
     let built : Built build start 0 (lines_from rows terms) (flat p) = subst (λ (ls : List Line). Built build start 0 ls (flat p)) (sym own) b in
     let long : length (flat_terms p) ≡ m = ap length (sym e) ∙ length-take-le m terms le in
     let run = runs terms start 0 rows (flat p) (shaped start 0 (lines_from rows terms) (flat p) built) fit built (omega arith) in

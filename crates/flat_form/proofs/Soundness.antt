@@ -2,7 +2,7 @@
 use Rattle.std.proofs.Common.{◌≡◌, ℕ, zero, suc, ◌+◌, ◌-◌, ◌≤◌, true, false, cond, eqb, leb, List, [], ◌∷◌, ◌++◌, map, length, take, drop, Some, None, Ok, Err, Option, Result, sym, refl, ap, ◌∙◌, subst, ⊎_elim, append_assoc, append-nil, arith, length-append, length-drop}
 use Rattle.std.proofs.lemmas.Bool.{eqb-true, eqb-false, leb-true}
 use Rattle.std.proofs.lemmas.List.{length-take-le, map_push, nil_from_length}
-use Rattle.std.specs.List.{AllByRecursion as All}
+use Rattle.std.specs.List.{AllByRecursion}
 use Rattle.language.specs.Block.{Tree}
 use Rattle.fault.specs.declared.Fault.{Fault}
 use Rattle.text.specs.Building.{Built}
@@ -32,7 +32,7 @@ fit_back (Constant n) e = let a = leb-true n 4294967295 e in omega arith
 fit_back (Variable n) e = let a = leb-true n 15 e in omega arith
 fit_back (Operator o) e = tt
 
-makes_back : (l : ℕ) (ts : List Term) → makes l ts ≡ true → Whole l ts × All FitTerm ts
+makes_back : (l : ℕ) (ts : List Term) → makes l ts ≡ true → Whole l ts × AllByRecursion FitTerm ts
 makes_back l [] e = (eqb-true l 0 e, tt)
 makes_back l (t ∷ ts) e =
     split (eqb l 0) false (cond (fits_term t) (makes (l - 1 + arity_of t) ts) false) true e (λ _ h. no h) (λ q h.
@@ -75,7 +75,7 @@ again_step terms s n r rs t e =
     split (fitted terms (length s.terms) r) (after (build s (n + 1) (line_from terms r)) (λ u. again terms u (n + 1) rs)) None (Some t) e
     (λ q h. (q, after_some (build s (n + 1) (line_from terms r)) (λ u. again terms u (n + 1) rs) t h)) (λ _ h. no_tables t h)
 
-built : (terms : List Term) (s : Tables) (n : ℕ) (rs : List Row) (t : Tables) → again terms s n rs ≡ Some t → All FitLine (lines_from rs terms) × Built build s n (lines_from rs terms) t
+built : (terms : List Term) (s : Tables) (n : ℕ) (rs : List Row) (t : Tables) → again terms s n rs ≡ Some t → AllByRecursion FitLine (lines_from rs terms) × Built build s n (lines_from rs terms) t
 built terms s n [] t e = (tt, same_tables s t e)
 built terms s n (r ∷ rs) t e =
     let a = again_step terms s n r rs t e in

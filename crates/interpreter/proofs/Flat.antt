@@ -1,6 +1,6 @@
 -- The flat form of a program within the limits is sound. Assumes nothing.
 use Rattle.std.proofs.Common.{◌≡◌, ℕ, zero, suc, ◌+◌, ◌-◌, ◌<◌, true, false, List, [], ◌∷◌, ◌++◌, length, get_or, drop, sym, refl, ap, ◌∙◌, subst, inl, inr, append_assoc, zero-add, arith, length-drop}
-use Rattle.std.specs.List.{AllByRecursion as All}
+use Rattle.std.specs.List.{AllByRecursion}
 use Rattle.std.proofs.lemmas.List.{drop-drop, drop_at, get_or-drop}
 use Rattle.language.specs.Block.{Block, done, skip, assign, output, branch, repeat, Tree}
 use Rattle.program.specs.declared.rows.Kind.{Kind}
@@ -183,7 +183,7 @@ module _ (rows : List Row) (terms : List Term) where
             (tt, sound_block (end + 1) (u₁ + width p) d k rs ts x.behind x.terms_behind h.3),
       )
 
-  sound_tree : (j u : ℕ) (p : Tree) → drop j rows ≡ tree_rows j u p → drop u terms ≡ all_terms (lines_of p) → All FitHandler p → Each j (tree_rows j u p)
+  sound_tree : (j u : ℕ) (p : Tree) → drop j rows ≡ tree_rows j u p → drop u terms ≡ all_terms (lines_of p) → AllByRecursion FitHandler p → Each j (tree_rows j u p)
   sound_tree j u [] r t h = tt
   sound_tree j u (g ∷ gs) r t h =
       let u₁ = u + width g.body in

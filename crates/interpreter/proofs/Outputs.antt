@@ -1,6 +1,6 @@
 -- Programs whose outputs go to out channels make out-tickets only, and sound tables are such programs. Assumes nothing.
 use Rattle.std.proofs.Common.{ℕ, zero, suc, ◌<◌, ◌≤◌, Bool, true, false, cond, eqb, ltb, List, [], ◌∷◌, ◌++◌, length, get_or, set, sym, subst}
-use Rattle.std.specs.List.{AllByRecursion as All}
+use Rattle.std.specs.List.{AllByRecursion}
 use Rattle.std.proofs.ByRecursion.{All-from_get_or, All-push}
 use Rattle.ticket.specs.declared.Ticket.{Ticket}
 use Rattle.machine.specs.Meaning.{Out}
@@ -35,14 +35,14 @@ outward_cond false a b h j = j
 
 -- the tickets that a run has made are out-tickets
 abbrev MadeOut : Ending → Type 0
-MadeOut (ended n s o) = All Out o
-MadeOut (stalled n s o) = All Out o
+MadeOut (ended n s o) = AllByRecursion Out o
+MadeOut (stalled n s o) = AllByRecursion Out o
 
 made_cond : (t : Bool) (a b : Ending) → MadeOut a → MadeOut b → MadeOut (cond t a b)
 made_cond true a b h j = h
 made_cond false a b h j = j
 
-run_outward : (x n : ℕ) (s : List ℕ) (o : List Ticket) (b : Block) → Outward b → All Out o → MadeOut (run x n s o b)
+run_outward : (x n : ℕ) (s : List ℕ) (o : List Ticket) (b : Block) → Outward b → AllByRecursion Out o → MadeOut (run x n s o b)
 run_outward x zero s o done h a = a
 run_outward x zero s o (skip k) h a = a
 run_outward x zero s o (assign v e k) h a = a
@@ -66,7 +66,7 @@ handler_outward : (p : Tree) (c : ℕ) → OutwardTree p → Outward (handler_of
 handler_outward [] c h = tt
 handler_outward (g ∷ p) c h = outward_cond (eqb g.channel c) g.body (handler_of p c) h.0 (handler_outward p c h.1)
 
-made_out : (n : ℕ) (r : Ending) → MadeOut r → All Out (outcome n r).made
+made_out : (n : ℕ) (r : Ending) → MadeOut r → AllByRecursion Out (outcome n r).made
 made_out n (ended l s o) h = h
 made_out n (stalled l s o) h = h
 
@@ -94,31 +94,31 @@ abbrev OutwardFrame : Frame → Type 0
 OutwardFrame (whole b) = Outward b
 OutwardFrame (parted a b) = Outward a × Outward b
 
-prefixed_outward : (f : Block → Block) (fs : List Frame) → ((b : Block) → Outward b → Outward (f b)) → All OutwardFrame fs → All OutwardFrame (prefixed f fs)
+prefixed_outward : (f : Block → Block) (fs : List Frame) → ((b : Block) → Outward b → Outward (f b)) → AllByRecursion OutwardFrame fs → AllByRecursion OutwardFrame (prefixed f fs)
 prefixed_outward f [] g h = tt
 prefixed_outward f (whole b ∷ fs) g h = (g b h.0, h.1)
 prefixed_outward f (parted a b ∷ fs) g h = ((g a h.0.0, h.0.1), h.1)
 
-halved_outward : (fs : List Frame) → All OutwardFrame fs → All OutwardFrame (halved fs)
+halved_outward : (fs : List Frame) → AllByRecursion OutwardFrame fs → AllByRecursion OutwardFrame (halved fs)
 halved_outward [] h = tt
 halved_outward (whole b ∷ fs) h = ((tt, h.0), h.1)
 halved_outward (parted a b ∷ fs) h = tt
 
-around_outward : (fs : List Frame) → All OutwardFrame fs → All OutwardFrame (around fs)
+around_outward : (fs : List Frame) → AllByRecursion OutwardFrame fs → AllByRecursion OutwardFrame (around fs)
 around_outward [] h = tt
 around_outward (f ∷ fs) h = h.1
 
-branched_outward : (e : Expr) (fs : List Frame) → All OutwardFrame fs → All OutwardFrame (branched e fs)
+branched_outward : (e : Expr) (fs : List Frame) → AllByRecursion OutwardFrame fs → AllByRecursion OutwardFrame (branched e fs)
 branched_outward e [] h = tt
 branched_outward e (whole b ∷ fs) h = prefixed_outward (branch false e b done) fs (λ k j. (h.0, tt, j)) h.1
 branched_outward e (parted a b ∷ fs) h = prefixed_outward (branch true e a b) fs (λ k j. (h.0.0, h.0.1, j)) h.1
 
-repeated_outward : (e : Expr) (fs : List Frame) → All OutwardFrame fs → All OutwardFrame (repeated e fs)
+repeated_outward : (e : Expr) (fs : List Frame) → AllByRecursion OutwardFrame fs → AllByRecursion OutwardFrame (repeated e fs)
 repeated_outward e [] h = tt
 repeated_outward e (whole b ∷ fs) h = prefixed_outward (repeat e b) fs (λ k j. (h.0, j)) h.1
 repeated_outward e (parted a b ∷ fs) h = tt
 
-framed_outward : (c : Kind) (e : Expr) (fs : List Frame) → OutKind c → All OutwardFrame fs → All OutwardFrame (framed c e fs)
+framed_outward : (c : Kind) (e : Expr) (fs : List Frame) → OutKind c → AllByRecursion OutwardFrame fs → AllByRecursion OutwardFrame (framed c e fs)
 framed_outward kind.Skip e fs o h = prefixed_outward skip fs (λ b j. j) h
 framed_outward (kind.Handler c) e fs o h = around_outward fs h
 framed_outward (kind.Assign v) e fs o h = prefixed_outward (assign v e) fs (λ b j. j) h
@@ -128,7 +128,7 @@ framed_outward kind.While e fs o h = repeated_outward e fs h
 framed_outward kind.Else e fs o h = halved_outward fs h
 framed_outward kind.Close e fs o h = (tt, h)
 
-here_outward : (fs : List Frame) → All OutwardFrame fs → Outward (here fs)
+here_outward : (fs : List Frame) → AllByRecursion OutwardFrame fs → Outward (here fs)
 here_outward [] h = tt
 here_outward (whole b ∷ fs) h = h.0
 here_outward (parted a b ∷ fs) h = h.0.0
@@ -146,11 +146,11 @@ handled_outward kind.Close b p o h = h
 abbrev OutRow : Row → Type 0
 OutRow r = OutKind r.kind
 
-frames_outward : (rows : List Row) (terms : List Term) → All OutRow rows → All OutwardFrame (frames (lines_from rows terms))
+frames_outward : (rows : List Row) (terms : List Term) → AllByRecursion OutRow rows → AllByRecursion OutwardFrame (frames (lines_from rows terms))
 frames_outward [] terms h = tt
 frames_outward (r ∷ rs) terms h = framed_outward r.kind (expression_at terms r) (frames (lines_from rs terms)) h.0 (frames_outward rs terms h.1)
 
-tree_outward : (rows : List Row) (terms : List Term) → All OutRow rows → OutwardTree (tree_of rows terms)
+tree_outward : (rows : List Row) (terms : List Term) → AllByRecursion OutRow rows → OutwardTree (tree_of rows terms)
 tree_outward [] terms h = tt
 tree_outward (r ∷ rs) terms h =
     let fs = frames (lines_from rs terms) in

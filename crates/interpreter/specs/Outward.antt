@@ -1,6 +1,6 @@
 -- Site programs all of whose outputs go to out channels. Assumes nothing.
 use Rattle.std.specs.Prelude.{◌<◌, ◌≤◌}
-use Rattle.std.specs.List.{AllByRecursion as All}
+use Rattle.std.specs.List.{AllByRecursion}
 use Rattle.language.specs.Block.{Block, done, skip, assign, output, branch, repeat, Handler, Tree}
 
 -- a block's outputs have the channels 16 to 31
@@ -16,4 +16,4 @@ abbrev pub OutwardHandler : Handler → Type 0
 OutwardHandler h = Outward h.body
 
 abbrev pub OutwardTree : Tree → Type 0
-OutwardTree p = All OutwardHandler p
+OutwardTree p = AllByRecursion OutwardHandler p

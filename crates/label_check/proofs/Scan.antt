@@ -1,6 +1,6 @@
 -- No row of a program breaks the label rule exactly if the program passes. Assumes nothing.
 use Rattle.std.proofs.Common.{◌≡◌, ℕ, ◌+◌, ◌-◌, Bool, true, false, cond, not, ◌&&◌, List, [], ◌∷◌, ◌++◌, Some, None, Option, sym, refl, ap, ◌∙◌, append_assoc, append-nil}
-use Rattle.std.specs.List.{AllByRecursion as All}
+use Rattle.std.specs.List.{AllByRecursion}
 use Rattle.language.specs.Expression.{Expr}
 use Rattle.language.specs.Block.{Block, done, skip, assign, output, branch, repeat, Tree}
 use Rattle.program.specs.Lines.{Line}
@@ -93,11 +93,11 @@ module _ (labels : Labels) where
       ∙ ap (λ z. first && z) (block_keeps d k fit.3 x g gs ls)
       ∙ and_assoc first (passes labels x g k) (keeps x (g ∷ gs) ls)
 
-  tree_keeps : (p : Tree) → All FitHandler p → (x : ℕ) → keeps x [] (lines_of p) ≡ passes_all labels p
+  tree_keeps : (p : Tree) → AllByRecursion FitHandler p → (x : ℕ) → keeps x [] (lines_of p) ≡ passes_all labels p
   tree_keeps [] fit x = refl
   tree_keeps (h ∷ hs) fit x =
       let c = labels.of_channel h.channel in
       block_keeps 8 h.body fit.0.1 c c [] (close_line ∷ lines_of hs) ∙ ap (λ z. passes labels c c h.body && z) (tree_keeps hs fit.1 c)
 
-  pub none_is_passing : (p : Tree) → All FitHandler p → is_none (first_leak labels (lines_of p)) ≡ passes_all labels p
+  pub none_is_passing : (p : Tree) → AllByRecursion FitHandler p → is_none (first_leak labels (lines_of p)) ≡ passes_all labels p
   none_is_passing p fit = none_keeps 0 [] 0 (lines_of p) ∙ tree_keeps p fit 0

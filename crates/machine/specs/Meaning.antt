@@ -1,6 +1,6 @@
 -- What a reactive machine means: what becomes of its words, one in-ticket and an allowance of steps. Assumes nothing.
 use Rattle.std.specs.Prelude.{ℕ, ◌<◌, ◌≤◌, Bool, List, length}
-use Rattle.std.specs.List.{AllByRecursion as All}
+use Rattle.std.specs.List.{AllByRecursion}
 use Rattle.ticket.specs.declared.Ticket.{Ticket}
 
 -- the tickets made in order, the steps taken, whether the run stalled, and the words afterwards
@@ -20,4 +20,4 @@ Out t = (16 ≤ t.channel) × (t.channel < 32)
 -- a reaction makes at most sixteen tickets, and only out-tickets
 pub record Lawful (means : Meaning) : Type 0 where
   pub few : (words : List ℕ) (t : Ticket) (allowance : ℕ) → length (means words t allowance).made ≤ 16
-  pub outward : (words : List ℕ) (t : Ticket) (allowance : ℕ) → All Out (means words t allowance).made
+  pub outward : (words : List ℕ) (t : Ticket) (allowance : ℕ) → AllByRecursion Out (means words t allowance).made

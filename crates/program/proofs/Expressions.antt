@@ -2,7 +2,7 @@
 use Rattle.std.proofs.Common.{◌≡◌, ℕ, suc, ◌+◌, ◌-◌, ◌<◌, ◌≤◌, true, cond, eqb, leb, List, [], ◌∷◌, ◌++◌, map, length, Some, None, Ok, Err, decimal, Option, Result, sym, refl, ap, ◌∙◌, subst, append_assoc, append-nil, arith}
 use Rattle.std.proofs.lemmas.Bool.{eqb-true, eqb-false, ne_eqb, leb-false, lt-leb}
 use Rattle.std.proofs.lemmas.List.{length_push, nil_from_length}
-use Rattle.std.specs.List.{AllByRecursion as All}
+use Rattle.std.specs.List.{AllByRecursion}
 use Rattle.fault.specs.declared.Fault.{Fault}
 use Rattle.fault.specs.Faults.{then}
 use Rattle.fault.proofs.Then.{then_ok}
@@ -102,7 +102,7 @@ abbrev Out : Type 0
 Out = Result (List Term × List (List ℕ)) Fault
 
 abbrev Rest : ℕ → List Term → List (List ℕ) → List (List ℕ) → List Term → List Term → Type 0
-Rest lacking acc fs gs us ts = (fs ≡ map term_bytes ts ++ gs) × (acc ++ ts ≡ us) × Whole lacking ts × All FitTerm ts
+Rest lacking acc fs gs us ts = (fs ≡ map term_bytes ts ++ gs) × (acc ++ ts ≡ us) × Whole lacking ts × AllByRecursion FitTerm ts
 
 abbrev Back : ℕ → List Term → List (List ℕ) → List (List ℕ) → List Term → Type 0
 Back lacking acc fs gs us = ((ts : List Term) × Rest lacking acc fs gs us ts) × (length us ≤ 15)
@@ -144,7 +144,7 @@ expr_back n k lacking acc (f ∷ fs) gs us h e =
       r.1,
     )))
 
-expr_forth : (n k lacking : ℕ) (acc ts : List Term) (gs : List (List ℕ)) → Whole lacking ts → All FitTerm ts → length acc + length ts ≤ 15 → expression_from n k lacking acc (map term_bytes ts ++ gs) ≡ Ok (acc ++ ts, gs)
+expr_forth : (n k lacking : ℕ) (acc ts : List Term) (gs : List (List ℕ)) → Whole lacking ts → AllByRecursion FitTerm ts → length acc + length ts ≤ 15 → expression_from n k lacking acc (map term_bytes ts ++ gs) ≡ Ok (acc ++ ts, gs)
 expr_forth n k lacking acc [] gs w f h = done n k lacking acc gs w ∙ ap (λ x. Ok (x, gs)) (sym (append-nil acc))
 expr_forth n k lacking acc (t ∷ ts) gs w f h =
     let long = length_push acc t in
@@ -159,7 +159,7 @@ pub expression_read_is_written : (n k : ℕ) (fs gs : List (List ℕ)) (ts : Lis
 expression_read_is_written n k fs gs ts e =
     let r = expr_back n k 1 [] fs gs ts (omega arith) e in
     let q : r.0.0 ≡ ts = r.0.1.1 in
-    subst (λ (x : List Term). (fs ≡ map term_bytes x ++ gs) × (Whole 1 x × (length x ≤ 15) × All FitTerm x)) q
+    subst (λ (x : List Term). (fs ≡ map term_bytes x ++ gs) × (Whole 1 x × (length x ≤ 15) × AllByRecursion FitTerm x)) q
     (r.0.1.0, (r.0.1.2, subst (λ (x : List Term). length x ≤ 15) (sym q) r.1, r.0.1.3))
 
 pub written_expression_is_read : (n k : ℕ) (ts : List Term) (gs : List (List ℕ)) → Expression ts → expression_from n k 1 [] (map term_bytes ts ++ gs) ≡ Ok (ts, gs)

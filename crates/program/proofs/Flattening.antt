@@ -2,7 +2,7 @@
 use Rattle.std.proofs.Common.{◌≡◌, ℕ, ◌+◌, ◌-◌, ◌<◌, ◌≤◌, Bool, true, false, cond, eqb, leb, List, [], ◌∷◌, ◌++◌, length, get_or, Some, None, sym, refl, ap, ◌∙◌, subst, append_assoc, append-nil, arith, length-append}
 use Rattle.std.proofs.lemmas.List.{length_push, get_or_at, set_at}
 use Rattle.std.proofs.lemmas.Bool.{le-leb, lt-leb}
-use Rattle.std.specs.List.{AllByRecursion as All}
+use Rattle.std.specs.List.{AllByRecursion}
 use Rattle.language.specs.Block.{Block, done, skip, assign, output, branch, repeat, Tree}
 use Rattle.language.specs.Expression.{Expr}
 use Rattle.program.specs.declared.rows.Kind.{Kind}
@@ -400,7 +400,7 @@ one_more_channel rows cs d f n p j u v b h c =
     ∙ ap (λ x. cond (is_listed c cs) true x) (cond_or (eqb c d) false)
     ∙ cond_or (is_listed c cs) (eqb c d)
 
-tree_runs : (hs : Tree) (cs : List ℕ) (rows : List Row) (terms : List Term) → All FitHandler hs → Once cs hs → Channels rows cs → length rows + length (lines_of hs) ≤ 128 → length terms + length (all_terms (lines_of hs)) ≤ 512 → Runs (tables rows terms []) (lines_of hs) (tables (rows ++ tree_rows (length rows) (length terms) hs) (terms ++ all_terms (lines_of hs)) [])
+tree_runs : (hs : Tree) (cs : List ℕ) (rows : List Row) (terms : List Term) → AllByRecursion FitHandler hs → Once cs hs → Channels rows cs → length rows + length (lines_of hs) ≤ 128 → length terms + length (all_terms (lines_of hs)) ≤ 512 → Runs (tables rows terms []) (lines_of hs) (tables (rows ++ tree_rows (length rows) (length terms) hs) (terms ++ all_terms (lines_of hs)) [])
 tree_runs [] cs rows terms fit once known a b = sym (same_tables _ _ _ _ [] (append-nil rows) (append-nil terms))
 tree_runs (h ∷ hs) cs rows terms fit once known a b =
     let u = length terms in

@@ -1,7 +1,7 @@
 -- A line is read exactly as it is written. Assumes nothing.
 use Rattle.std.proofs.Common.{◌≡◌, ℕ, ◌+◌, ◌^◌, ◌<◌, ◌≤◌, true, eqb, List, [], ◌∷◌, ◌++◌, map, length, Ok, Err, decimal, Result, sym, refl, ap, ◌∙◌, subst, append-nil, arith}
 use Rattle.std.proofs.lemmas.Bool.{eqb-true}
-use Rattle.std.specs.List.{AllByRecursion as All}
+use Rattle.std.specs.List.{AllByRecursion}
 use Rattle.fault.specs.declared.Fault.{Fault}
 use Rattle.fault.specs.Faults.{then}
 use Rattle.fault.proofs.Then.{then_ok, ok_then}
@@ -151,14 +151,14 @@ term_is_well (Constant n) f = let w = decimal_is_well n f in ((refl, w.0), w.1)
 term_is_well (Variable n) f = let w = decimal_is_well n (omega arith) in ((refl, w.0), w.1)
 term_is_well (Operator o) f = operator_is_well o
 
-terms_are_well : (ts : List Term) → All FitTerm ts → All Well (map term_bytes ts)
+terms_are_well : (ts : List Term) → AllByRecursion FitTerm ts → AllByRecursion Well (map term_bytes ts)
 terms_are_well [] f = tt
 terms_are_well (t ∷ ts) f = (term_is_well t f.0, terms_are_well ts f.1)
 
-none_is_well : (ts : List Term) → ts ≡ [] → All Well (map term_bytes ts)
-none_is_well ts e = subst (λ (x : List Term). All Well (map term_bytes x)) (sym e) tt
+none_is_well : (ts : List Term) → ts ≡ [] → AllByRecursion Well (map term_bytes ts)
+none_is_well ts e = subst (λ (x : List Term). AllByRecursion Well (map term_bytes x)) (sym e) tt
 
-rest_is_well : (k : Kind) (ts : List Term) → FitKind k ts → All Well (target_of k ++ map term_bytes ts)
+rest_is_well : (k : Kind) (ts : List Term) → FitKind k ts → AllByRecursion Well (target_of k ++ map term_bytes ts)
 rest_is_well Skip ts f = none_is_well ts f
 rest_is_well (Handler c) ts f = (decimal_is_well c (omega (arith, f.0)), none_is_well ts f.1)
 rest_is_well (Assign v) ts f = (decimal_is_well v (omega (arith, f.0)), terms_are_well ts f.1.2)
@@ -178,7 +178,7 @@ letter_is_well While = ((refl, tt), refl)
 letter_is_well Else = ((refl, tt), refl)
 letter_is_well Close = ((refl, tt), refl)
 
-all_free : (ps : List (List ℕ)) → All Well ps → All (Free 44) ps
+all_free : (ps : List (List ℕ)) → AllByRecursion Well ps → AllByRecursion (Free 44) ps
 all_free [] w = tt
 all_free (p ∷ ps) w = (w.0.0, all_free ps w.1)
 

@@ -2,7 +2,7 @@
 use Rattle.std.proofs.Common.{◌≡◌, ℕ, zero, suc, ◌<◌, ◌≤◌, Bool, true, false, leb, List, [], ◌∷◌, ◌++◌, length, get_or, Some, None, sym, refl, ap, ◌∙◌, subst, arith, length-set}
 use Rattle.std.proofs.lemmas.List.{length_push, get_or_at, get_or_append_left}
 use Rattle.std.proofs.lemmas.Bool.{leb-false}
-use Rattle.std.specs.List.{AllByRecursion as All}
+use Rattle.std.specs.List.{AllByRecursion}
 use Rattle.program.specs.declared.rows.Kind.{Kind}
 use Rattle.program.specs.declared.rows.Kind.TheVariants as kind
 use Rattle.program.specs.declared.rows.Row.{Row}
@@ -20,7 +20,7 @@ marks rows [] = []
 marks rows (o ∷ os) = is_if (get_or rows o blank_row).kind ∷ marks rows os
 
 abbrev Under : ℕ → List ℕ → Type 0
-Under n os = All (λ o. o < n) os
+Under n os = AllByRecursion (λ o. o < n) os
 
 under_more : (n m : ℕ) (os : List ℕ) → n ≤ m → Under n os → Under m os
 under_more n m [] le u = tt

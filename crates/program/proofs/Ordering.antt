@@ -1,6 +1,6 @@
 -- Lines that leave nothing open are the lines of a program. Assumes nothing.
 use Rattle.std.proofs.Common.{◌≡◌, ℕ, ◌-◌, ◌<◌, ◌≤◌, Bool, true, false, List, [], ◌∷◌, ◌++◌, length, sym, refl, ap, ◌∙◌, subst, append_assoc, arith}
-use Rattle.std.specs.List.{AllByRecursion as All}
+use Rattle.std.specs.List.{AllByRecursion}
 use Rattle.language.specs.Block.{Block, done, skip, assign, output, branch, repeat, Tree}
 use Rattle.language.specs.Expression.{Expr}
 use Rattle.program.specs.declared.rows.Kind.{Kind}
@@ -43,7 +43,7 @@ Matches (m ∷ ms) (whole b ∷ fs) = FitBlock (8 - length ms) b × Matches ms f
 Matches (m ∷ ms) (parted a b ∷ fs) = (m ≡ true) × FitBlock (8 - length ms) a × FitBlock (8 - length ms) b × Matches ms fs
 
 abbrev Closed : List Bool → List Line → List Frame → Tree → Type 0
-Closed ms ls fs p = (ls ≡ frame_lines fs p) × Matches ms fs × All FitHandler p
+Closed ms ls fs p = (ls ≡ frame_lines fs p) × Matches ms fs × AllByRecursion FitHandler p
 
 never : {P : Type 0} → false ≡ true → P
 never e = let z : ◌≡◌ {A = ℕ} 0 1 = cc in absurd (omega arith)
@@ -151,13 +151,13 @@ one_line kind.Else ts ms ns fs p ls fit mv c =
 one_line kind.Close ts ms ns fs p ls fit mv c =
     bare kind.Close ts ms fs p ls fit (moved ms (mv.0 ∷ ns) _ _ _ (sym mv.1) (ap (λ y. close_line ∷ y) c.0, (tt, c.1), c.2))
 
-lines_closed : (ms : List Bool) (ls : List Line) → Ordered ms ls → All FitLine ls → Closed ms ls (frames ls) (program_of ls)
+lines_closed : (ms : List Bool) (ls : List Line) → Ordered ms ls → AllByRecursion FitLine ls → Closed ms ls (frames ls) (program_of ls)
 lines_closed ms [] o fit = (refl, subst (λ (x : List Bool). Matches x []) (sym o) tt, tt)
 lines_closed ms (l ∷ ls) o fit = one_line l.0 l.1 ms o.0 (frames ls) (program_of ls) ls fit.0 o.1 (lines_closed o.0 ls o.2 fit.1)
 
-none_open : (ls : List Line) (fs : List Frame) (p : Tree) → Closed [] ls fs p → (ls ≡ lines_of p) × (fs ≡ []) × All FitHandler p
+none_open : (ls : List Line) (fs : List Frame) (p : Tree) → Closed [] ls fs p → (ls ≡ lines_of p) × (fs ≡ []) × AllByRecursion FitHandler p
 none_open ls [] p c = (c.0, refl, c.2)
 none_open ls (f ∷ fs) p c = absurd c.1
 
-pub ordered_lines_are_a_program : (ls : List Line) → Ordered [] ls → All FitLine ls → (ls ≡ lines_of (program_of ls)) × (frames ls ≡ []) × All FitHandler (program_of ls)
+pub ordered_lines_are_a_program : (ls : List Line) → Ordered [] ls → AllByRecursion FitLine ls → (ls ≡ lines_of (program_of ls)) × (frames ls ≡ []) × AllByRecursion FitHandler (program_of ls)
 ordered_lines_are_a_program ls o fit = none_open ls (frames ls) (program_of ls) (lines_closed [] ls o fit)

@@ -3,7 +3,7 @@ use Rattle.std.proofs.Common.{◌≡◌, ℕ, ◌-◌, ◌≤◌, Bool, true, fa
 use lib.ListN.{length-replicate}
 use Rattle.std.proofs.lemmas.List.{length-map}
 use Rattle.std.proofs.lemmas.Bool.{leb-true, le-leb, and_parts, both_ways}
-use Rattle.std.specs.List.{AllByRecursion as All}
+use Rattle.std.specs.List.{AllByRecursion}
 use Rattle.fault.specs.declared.Fault.{Fault}
 use Rattle.fault.specs.declared.Reason.TheVariants as reason
 use Rattle.fault.specs.Faults.{unplaced}
@@ -35,7 +35,7 @@ use Rattle.program.proofs.Spelling.{all_append, fit_expression_is_one}
 use Rattle.program.proofs.Tables.{tables_tell_their_lines}
 
 -- what is written of a program fits
-block_fits : (d : ℕ) (b : Block) → FitBlock d b → All FitLine (block_lines b)
+block_fits : (d : ℕ) (b : Block) → FitBlock d b → AllByRecursion FitLine (block_lines b)
 block_fits d done fit = tt
 block_fits d (skip k) fit = (refl, block_fits d k fit)
 block_fits d (assign v e k) fit = ((fit.0, fit_expression_is_one e fit.1), block_fits d k fit.2)
@@ -47,12 +47,12 @@ block_fits d (branch true e p q k) fit = (
 block_fits d (branch false e p q k) fit = (fit_expression_is_one e fit.1, all_append FitLine (block_lines p) _ (block_fits (d - 1) p fit.2) (refl, block_fits d k fit.5))
 block_fits d (repeat e p k) fit = (fit_expression_is_one e fit.1, all_append FitLine (block_lines p) _ (block_fits (d - 1) p fit.2) (refl, block_fits d k fit.3))
 
-pub lines_fit : (p : Tree) → All FitHandler p → All FitLine (lines_of p)
+pub lines_fit : (p : Tree) → AllByRecursion FitHandler p → AllByRecursion FitLine (lines_of p)
 lines_fit [] fit = tt
 lines_fit (h ∷ hs) fit = ((fit.0.0, refl), all_append FitLine (block_lines h.body) _ (block_fits 8 h.body fit.0.1) (refl, lines_fit hs fit.1))
 
 -- lines that are built, with nothing open at the end, are those of a program, and lead to its flat form
-pub built_is_flat : (ls : List Line) (t : Tables) → All FitLine ls → t.stack ≡ [] → Built build start 0 ls t → (ls ≡ lines_of (program_of ls)) × Within (program_of ls) × (t ≡ flat (program_of ls))
+pub built_is_flat : (ls : List Line) (t : Tables) → AllByRecursion FitLine ls → t.stack ≡ [] → Built build start 0 ls t → (ls ≡ lines_of (program_of ls)) × Within (program_of ls) × (t ≡ flat (program_of ls))
 built_is_flat ls t fit z b =
     let r = built_runs start 0 ls t b in
     let o = ordered_lines_are_a_program ls (runs_are_ordered start t ls refl z r) fit in
@@ -81,14 +81,14 @@ read_is_written t s e =
       program_of ls,
       record {
         program_keeps_its_limits = b.1;
-        lines_are_clean = subst (λ (y : List Line). All (λ l. is_clean (line_bytes l) ≡ true) y) b.0 a.3;
+        lines_are_clean = subst (λ (y : List Line). AllByRecursion (λ l. is_clean (line_bytes l) ≡ true) y) b.0 a.3;
         text_is_short = leb-true (length t) 8192 c.0;
         text_is_written = a.1 ∙ ap (λ y. fed (map line_bytes y)) b.0;
       },
       sym q.0 ∙ b.2,
     )
 
-all_free : (ls : List Line) → All (λ l. is_clean (line_bytes l) ≡ true) ls → All (Free 10) (map line_bytes ls)
+all_free : (ls : List Line) → AllByRecursion (λ l. is_clean (line_bytes l) ≡ true) ls → AllByRecursion (Free 10) (map line_bytes ls)
 all_free [] c = tt
 all_free (l ∷ ls) c = (clean_is_free (line_bytes l) c.0, all_free ls c.1)
 

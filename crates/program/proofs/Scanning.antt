@@ -1,6 +1,6 @@
 -- A scan of a program's lines finds it again. Assumes nothing.
 use Rattle.std.proofs.Common.{◌≡◌, ℕ, ◌-◌, Bool, true, false, List, [], ◌∷◌, ◌++◌, sym, refl, ap, ◌∙◌, append_assoc}
-use Rattle.std.specs.List.{AllByRecursion as All}
+use Rattle.std.specs.List.{AllByRecursion}
 use Rattle.language.specs.Block.{Block, done, skip, assign, output, branch, repeat, ◌⨟◌, Tree}
 use Rattle.language.specs.Expression.{Expr}
 use Rattle.program.specs.Lines.{Line}
@@ -97,7 +97,7 @@ block_program (branch false e p q k) ls =
 block_program (repeat e p k) ls =
     ap program_of (append_assoc (block_lines p) (close_line ∷ block_lines k) ls) ∙ block_program p (close_line ∷ (block_lines k ++ ls)) ∙ block_program k ls
 
-pub program_of_its_lines : (p : Tree) → All FitHandler p → program_of (lines_of p) ≡ p
+pub program_of_its_lines : (p : Tree) → AllByRecursion FitHandler p → program_of (lines_of p) ≡ p
 program_of_its_lines [] fit = refl
 program_of_its_lines (h ∷ hs) fit =
     let b = h.body in

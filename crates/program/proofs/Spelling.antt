@@ -1,6 +1,6 @@
 -- Terms spell an expression exactly as it is written. Assumes nothing.
 use Rattle.std.proofs.Common.{◌≡◌, ℕ, ◌+◌, ◌-◌, ◌<◌, ◌≤◌, List, [], ◌∷◌, ◌++◌, length, sym, refl, ap, ◌∙◌, subst, append_assoc, append-nil, arith}
-use Rattle.std.specs.List.{AllByRecursion as All}
+use Rattle.std.specs.List.{AllByRecursion}
 use Rattle.language.specs.declared.Operator as language
 use Rattle.language.specs.Expression.{Expr, input, constant, variable, binary}
 use Rattle.program.specs.declared.rows.Term.{Term}
@@ -36,11 +36,11 @@ whole_more (binary o l r) n ts w =
     let h = whole_more l (n + 1) (terms_of r ++ ts) (whole_more r n ts w) in
     (omega arith, subst (λ (m : ℕ). Whole m ((terms_of l ++ terms_of r) ++ ts)) z (subst (λ (xs : List Term). Whole (n + 1 + 1) xs) (sym (append_assoc (terms_of l) (terms_of r) ts)) h))
 
-pub all_append : {X : Type 0} (P : X → Type 0) (xs ys : List X) → All P xs → All P ys → All P (xs ++ ys)
+pub all_append : {X : Type 0} (P : X → Type 0) (xs ys : List X) → AllByRecursion P xs → AllByRecursion P ys → AllByRecursion P (xs ++ ys)
 all_append P [] ys f g = g
 all_append P (x ∷ xs) ys f g = (f.0, all_append P xs ys f.1 g)
 
-terms_fit : (e : Expr) → InRange e → All FitTerm (terms_of e)
+terms_fit : (e : Expr) → InRange e → AllByRecursion FitTerm (terms_of e)
 terms_fit input f = (tt, tt)
 terms_fit (constant n) f = (f, tt)
 terms_fit (variable v) f = (f, tt)
@@ -57,7 +57,7 @@ spelled [] = []
 spelled (e ∷ es) = terms_of e ++ spelled es
 
 abbrev Spells : ℕ → List Term → List Expr → Type 0
-Spells n ts es = (length es ≡ n) × (spelled es ≡ ts) × All InRange es
+Spells n ts es = (length es ≡ n) × (spelled es ≡ ts) × AllByRecursion InRange es
 
 operated : (o : language.Operator) (n : ℕ) (ts : List Term) (es : List Expr) → 0 < n → Spells (n - 1 + 2) ts es → Spells n (Operator o ∷ ts) (operate o es)
 operated o n ts [] pos h = let l = h.0 in absurd (omega arith)
@@ -71,7 +71,7 @@ operated o n ts (a ∷ b ∷ es) pos h = (
 leaf : (n : ℕ) (t : Term) (e : Expr) (ts : List Term) (es : List Expr) → terms_of e ≡ t ∷ [] → InRange e → 0 < n → Spells (n - 1 + 0) ts es → Spells n (t ∷ ts) (e ∷ es)
 leaf n t e ts es one fit pos h = (let l = h.0 in omega arith, ap (λ xs. xs ++ spelled es) one ∙ ap (λ xs. t ∷ xs) h.1, (fit, h.2))
 
-whole_spells : (n : ℕ) (ts : List Term) → Whole n ts → All FitTerm ts → Spells n ts (expressions ts)
+whole_spells : (n : ℕ) (ts : List Term) → Whole n ts → AllByRecursion FitTerm ts → Spells n ts (expressions ts)
 whole_spells n [] w f = (sym w, refl, tt)
 whole_spells n (Input ∷ ts) w f = leaf n Input input ts (expressions ts) refl tt w.0 (whole_spells (n - 1 + 0) ts w.1 f.1)
 whole_spells n (Constant k ∷ ts) w f = leaf n (Constant k) (constant k) ts (expressions ts) refl f.0 w.0 (whole_spells (n - 1 + 0) ts w.1 f.1)

@@ -1,7 +1,7 @@
 -- The lines that tables stand for are those that they were built of. Assumes nothing.
 use Rattle.std.proofs.Common.{◌≡◌, ℕ, zero, suc, ◌+◌, ◌≤◌, true, false, cond, ◌⊎◌, List, [], ◌∷◌, ◌++◌, length, get_or, take, drop, Some, None, Ok, Err, Option, Result, sym, refl, ap, ◌∙◌, subst, inl, inr, ⊎_elim, append_assoc, append-nil, arith, length-append, length-drop, length-set}
 use Rattle.std.proofs.lemmas.List.{take-append-le, drop-append-le, drop_at, take_all, map_push, length_push}
-use Rattle.std.specs.List.{AllByRecursion as All}
+use Rattle.std.specs.List.{AllByRecursion}
 use Rattle.fault.specs.declared.Fault.{Fault}
 use Rattle.fault.proofs.Then.{then_ok, same_ok, cond_ok}
 use Rattle.text.specs.Building.{Built}
@@ -17,7 +17,7 @@ use Rattle.program.proofs.Cases.{split}
 
 -- the terms of each row stand among the first m
 abbrev pub Within : ℕ → List Row → Type 0
-Within m rows = All (λ r. r.first + r.count ≤ m) rows
+Within m rows = AllByRecursion (λ r. r.first + r.count ≤ m) rows
 
 pub part_kept : (f c : ℕ) (terms ts : List Term) → f + c ≤ length terms → take c (drop f (terms ++ ts)) ≡ take c (drop f terms)
 part_kept f c terms ts h =

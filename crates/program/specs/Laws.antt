@@ -1,6 +1,6 @@
 -- What the reader of programs accepts, with no word of how it reads. Assumes nothing.
 use Rattle.std.specs.Prelude.{◌≡◌, ℕ, ◌≤◌, true, List, [], length, Ok, Err, Result}
-use Rattle.std.specs.List.{AllByRecursion as All}
+use Rattle.std.specs.List.{AllByRecursion}
 use Rattle.fault.specs.declared.Fault.{Fault}
 use Rattle.language.specs.Block.{Tree}
 use Rattle.text.specs.Lines.{text_limit, is_clean}
@@ -15,7 +15,7 @@ use Rattle.program.specs.Writing.{lines_of, written, flat_rows, flat_terms, With
 -- the text t is the writing of the program p, which keeps its limits, and those on bytes
 pub record Writes (p : Tree) (t : List ℕ) : Type 0 where
   pub program_keeps_its_limits : Within p
-  pub lines_are_clean : All (λ l. is_clean (line_bytes l) ≡ true) (lines_of p)
+  pub lines_are_clean : AllByRecursion (λ l. is_clean (line_bytes l) ≡ true) (lines_of p)
   pub text_is_short : length t ≤ text_limit
   pub text_is_written : t ≡ written p
 

@@ -1,6 +1,6 @@
 -- Terms and expressions as fields of a line: what is read, and what is written. Assumes nothing.
 use Rattle.std.specs.Prelude.{◌≡◌, ℕ, ◌+◌, ◌-◌, ◌^◌, ◌<◌, ◌≤◌, cond, List, [], ◌∷◌, ◌++◌, length, take, drop, Some, None, Ok, Err, decimal, Option, Result, ◌==◌, nat_le, slice_index}
-use Rattle.std.specs.List.{AllByRecursion as All}
+use Rattle.std.specs.List.{AllByRecursion}
 use Rattle.fault.specs.declared.Fault.{Fault}
 use Rattle.fault.specs.Faults.{then}
 use Rattle.language.specs.declared.Operator as language
@@ -83,4 +83,4 @@ Whole lacking (t ∷ ts) = (0 < lacking) × Whole (lacking - 1 + arity_of t) ts
 
 -- an expression: 1 to 15 terms, each in its range
 abbrev pub Expression : List Term → Type 0
-Expression ts = Whole 1 ts × (length ts ≤ 15) × All FitTerm ts
+Expression ts = Whole 1 ts × (length ts ≤ 15) × AllByRecursion FitTerm ts

@@ -1,6 +1,6 @@
 -- The one text of a program and its flat form, and what a program may hold. Assumes nothing.
 use Rattle.std.specs.Prelude.{◌≡◌, ℕ, ◌+◌, ◌-◌, ◌^◌, ◌<◌, ◌≤◌, Bool, true, false, cond, List, [], ◌∷◌, ◌++◌, map, length, ◌==◌}
-use Rattle.std.specs.List.{AllByRecursion as All}
+use Rattle.std.specs.List.{AllByRecursion}
 use Rattle.language.specs.Block.{Block, done, skip, assign, output, branch, repeat, Tree}
 use Rattle.language.specs.Block as block
 use Rattle.language.specs.Expression.{Expr, input, constant, variable, binary}
@@ -139,7 +139,7 @@ Once cs (h ∷ hs) = (is_listed h.channel cs ≡ false) × Once (h.channel ∷ c
 
 -- what a program may hold
 pub record Within (p : Tree) : Type 0 where
-  pub handlers_fit : All FitHandler p
+  pub handlers_fit : AllByRecursion FitHandler p
   pub one_handler_a_channel : Once [] p
   pub rows_are_few : length (lines_of p) ≤ row_limit
   pub terms_are_few : length (flat_terms p) ≤ term_limit

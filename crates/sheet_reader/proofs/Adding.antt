@@ -1,7 +1,7 @@
 -- Lines are put one behind the other exactly if no name comes twice and the scheme has their levels. Assumes nothing.
 use Rattle.std.proofs.Common.{◌≡◌, ℕ, ◌+◌, ◌<◌, ◌≤◌, Bool, true, false, cond, ltb, List, [], ◌∷◌, ◌++◌, Ok, Err, sym, refl, ◌∙◌, subst, append_assoc, append-nil, arith}
 use Rattle.std.proofs.lemmas.Bool.{cond-true, cond-false, or_parts, or_from, ltb-true, lt-ltb, le-ltb}
-use Rattle.std.specs.List.{AllByRecursion as All}
+use Rattle.std.specs.List.{AllByRecursion}
 use Rattle.fault.proofs.Then.{same_ok, cond_ok}
 use Rattle.levels.specs.Scheme.{Levels}
 use Rattle.text.specs.Building.{Built}
@@ -33,24 +33,24 @@ module _ (L : Levels) where
 
   -- the lines ls can follow the lines before: no name of theirs was there, and none comes twice
   pub record Follows (before ls : List SheetLine) : Type 0 where
-    pub new : All (λ k. has_name before k.name ≡ false) ls
+    pub new : AllByRecursion (λ k. has_name before k.name ≡ false) ls
     pub once : Once ls
-    pub levels : All (λ k. k.level < L.count) ls
+    pub levels : AllByRecursion (λ k. k.level < L.count) ls
 
   -- what is new behind one line more
   apart : (before : List SheetLine) (l k : SheetLine) → has_name (before ++ l ∷ []) k.name ≡ false → (same_name l.name k.name ≡ false) × (has_name before k.name ≡ false)
   apart before l k e = or_parts (same_name l.name k.name) (has_name before k.name) (sym (has_name_push before l k.name) ∙ e)
 
-  split_new : (before : List SheetLine) (l : SheetLine) (ls : List SheetLine) → All (λ k. has_name (before ++ l ∷ []) k.name ≡ false) ls
-      → All (λ k. l.name ≡ k.name → ⊥) ls × All (λ k. has_name before k.name ≡ false) ls
+  split_new : (before : List SheetLine) (l : SheetLine) (ls : List SheetLine) → AllByRecursion (λ k. has_name (before ++ l ∷ []) k.name ≡ false) ls
+      → AllByRecursion (λ k. l.name ≡ k.name → ⊥) ls × AllByRecursion (λ k. has_name before k.name ≡ false) ls
   split_new before l [] h = (tt, tt)
   split_new before l (k ∷ ks) h =
       let a = apart before l k h.0 in
       let r = split_new before l ks h.1 in
       ((differ l.name k.name a.0, r.0), (a.1, r.1))
 
-  join_new : (before : List SheetLine) (l : SheetLine) (ls : List SheetLine) → All (λ k. l.name ≡ k.name → ⊥) ls → All (λ k. has_name before k.name ≡ false) ls
-      → All (λ k. has_name (before ++ l ∷ []) k.name ≡ false) ls
+  join_new : (before : List SheetLine) (l : SheetLine) (ls : List SheetLine) → AllByRecursion (λ k. l.name ≡ k.name → ⊥) ls → AllByRecursion (λ k. has_name before k.name ≡ false) ls
+      → AllByRecursion (λ k. has_name (before ++ l ∷ []) k.name ≡ false) ls
   join_new before l [] h g = tt
   join_new before l (k ∷ ks) h g =
       (has_name_push before l k.name ∙ or_from (same_name l.name k.name) (has_name before k.name) (different l.name k.name h.0) g.0, join_new before l ks h.1 g.1)
@@ -74,6 +74,6 @@ module _ (L : Levels) where
         (following_is_built (before ++ l ∷ []) (n + 1) ls (record { new = join_new before l ls h.once.0 h.new.1; once = h.once.1; levels = h.levels.1 })),
   )
 
-pub all_new : (ls : List SheetLine) → All (λ k. has_name [] k.name ≡ false) ls
+pub all_new : (ls : List SheetLine) → AllByRecursion (λ k. has_name [] k.name ≡ false) ls
 all_new [] = tt
 all_new (l ∷ ls) = (refl, all_new ls)

@@ -2,7 +2,7 @@
 use Rattle.std.proofs.Common.{◌≡◌, ℕ, ◌+◌, ◌<◌, ◌≤◌, Bool, true, false, cond, ◌||◌, List, [], ◌∷◌, ◌++◌, length, get_or, set, replicate, count_by, sym, refl, ap, ◌∙◌, arith}
 use Rattle.std.proofs.lemmas.List.{length-set, length-replicate, get_or-set_same, get_or-set_other, get_or-replicate}
 use Rattle.std.proofs.lemmas.List.Sums.{sum_by-set, count_by-le-length}
-use Rattle.std.specs.List.{AllByRecursion as All}
+use Rattle.std.specs.List.{AllByRecursion}
 use Rattle.sheet_reader.specs.declared.line.Name.{Name}
 use Rattle.sheet_reader.specs.declared.line.SheetLine.{SheetLine}
 use Rattle.sheet_reader.specs.Naming.{FitName, place_of, same_name, has_name}
@@ -41,7 +41,7 @@ one_more_raised flags i lt e =
     let z : cond {A = ℕ} (get_or flags i false) 1 0 ≡ 0 = ap (λ b. cond {A = ℕ} b 1 0) e in
     omega arith
 
-flags_of : (ls : List SheetLine) → All Fit ls → Once ls → (flags : List Bool) × Tells flags ls × (count_by (λ b. b) flags ≡ length ls)
+flags_of : (ls : List SheetLine) → AllByRecursion Fit ls → Once ls → (flags : List Bool) × Tells flags ls × (count_by (λ b. b) flags ≡ length ls)
 flags_of [] f o = (replicate 48 false, tells_none, refl)
 flags_of (l ∷ ls) f o =
     let r = flags_of ls f.1 o.1 in
@@ -51,7 +51,7 @@ flags_of (l ∷ ls) f o =
     let q = one_more_raised r.0 (place_of l.name) (omega arith) (r.1.tells l.name f.0.name ∙ unnamed l.name ls o.0) in
     (set r.0 (place_of l.name) true, tells_more r.1 l f.0.name, omega arith)
 
-pub once_is_few : (ls : List SheetLine) → All Fit ls → Once ls → length ls ≤ 48
+pub once_is_few : (ls : List SheetLine) → AllByRecursion Fit ls → Once ls → length ls ≤ 48
 once_is_few ls f o =
     let r = flags_of ls f o in
     let n = r.1.long in

@@ -2,7 +2,7 @@
 use Rattle.std.proofs.Common.{◌≡◌, ℕ, zero, suc, ◌<◌, true, ltb, List, [], ◌∷◌, length, set, replicate, refl, ap, ◌∙◌, arith}
 use Rattle.std.proofs.lemmas.List.{length-set, length-replicate, get_or-set_same, get_or-set_other, get_or-replicate}
 use Rattle.std.proofs.lemmas.Bool.{and_parts, and_from, lt-ltb}
-use Rattle.std.specs.List.{AllByRecursion as All}
+use Rattle.std.specs.List.{AllByRecursion}
 use Rattle.levels.specs.Scheme.{Levels, Lattice}
 use Rattle.levels.specs.Lattices.{lowest_level}
 use Rattle.sheet.specs.declared.LevelSheet.{LevelSheet}
@@ -41,11 +41,11 @@ other_level sheet (Variable v) (Channel d) level h = refl
 other_level sheet (Variable v) (Variable w) level h = get_or-set_other sheet.variables v w level 0 (λ e. h (ap (λ x. Variable x) e))
 
 -- the levels of all lines
-other_levels : (sheet : LevelSheet) (ls : List SheetLine) (m : Name) → All (λ l. m ≡ l.name → ⊥) ls → level_of (all_given sheet ls) m ≡ level_of sheet m
+other_levels : (sheet : LevelSheet) (ls : List SheetLine) (m : Name) → AllByRecursion (λ l. m ≡ l.name → ⊥) ls → level_of (all_given sheet ls) m ≡ level_of sheet m
 other_levels sheet [] m h = refl
 other_levels sheet (l ∷ ls) m h = other_levels (given sheet l.name l.level) ls m h.1 ∙ other_level sheet l.name m l.level h.0
 
-levels_given : (sheet : LevelSheet) (ls : List SheetLine) → Whole sheet → All Fit ls → Once ls → All (λ l. level_of (all_given sheet ls) l.name ≡ l.level) ls
+levels_given : (sheet : LevelSheet) (ls : List SheetLine) → Whole sheet → AllByRecursion Fit ls → Once ls → AllByRecursion (λ l. level_of (all_given sheet ls) l.name ≡ l.level) ls
 levels_given sheet [] w f o = tt
 levels_given sheet (l ∷ ls) w f o =
     let next = given sheet l.name l.level in (
@@ -77,7 +77,7 @@ module _ (L : Levels) where
       let a = and_parts (each_below L.count sheet.channels) (each_below L.count sheet.variables) h in
       and_from (each_below L.count sheet.channels) _ a.0 (each_below_set L.count sheet.variables v level lt a.1)
 
-  all_have_levels : (sheet : LevelSheet) (ls : List SheetLine) → All (λ l. l.level < L.count) ls → has_sheet L sheet ≡ true → has_sheet L (all_given sheet ls) ≡ true
+  all_have_levels : (sheet : LevelSheet) (ls : List SheetLine) → AllByRecursion (λ l. l.level < L.count) ls → has_sheet L sheet ≡ true → has_sheet L (all_given sheet ls) ≡ true
   all_have_levels sheet [] lt h = h
   all_have_levels sheet (l ∷ ls) lt h = all_have_levels (given sheet l.name l.level) ls lt.1 (given_has_levels sheet l.name l.level lt.0 h)
 

@@ -1,7 +1,7 @@
 -- Names, their places, and whether a line has one. Assumes nothing.
 use Rattle.std.proofs.Common.{◌≡◌, ◌<◌, Bool, true, false, ◌||◌, List, [], ◌∷◌, ◌++◌, sym, refl, ap, ◌∙◌, ⊎_elim, arith}
 use Rattle.std.proofs.lemmas.Bool.{cases_Bool, both_ways, eqb-true, eq-eqb, false≢true}
-use Rattle.std.specs.List.{AllByRecursion as All}
+use Rattle.std.specs.List.{AllByRecursion}
 use Rattle.sheet_reader.specs.declared.line.Name.{Name}
 use Rattle.sheet_reader.specs.declared.line.Name.TheVariants.{Channel, Variable}
 use Rattle.sheet_reader.specs.declared.line.SheetLine.{SheetLine}
@@ -47,6 +47,6 @@ has_name_push [] l m = refl
 has_name_push (k ∷ ks) l m = ap (λ b. same_name k.name m || b) (has_name_push ks l m) ∙ or_swap (same_name k.name m) (same_name l.name m) (has_name ks m)
 
 -- a name that differs from that of every line
-pub unnamed : (m : Name) (ls : List SheetLine) → All (λ k. m ≡ k.name → ⊥) ls → has_name ls m ≡ false
+pub unnamed : (m : Name) (ls : List SheetLine) → AllByRecursion (λ k. m ≡ k.name → ⊥) ls → has_name ls m ≡ false
 unnamed m [] h = refl
 unnamed m (k ∷ ks) h = ap (λ b. b || has_name ks m) (different k.name m (λ e. h.0 (sym e))) ∙ unnamed m ks h.1

@@ -3,7 +3,7 @@ use Rattle.std.proofs.Common.{◌≡◌, ℕ, ◌≤◌, true, cond, leb, List, 
 use Rattle.std.proofs.ByRecursion.{All-weaker, All-map}
 use Rattle.std.proofs.lemmas.List.{length-map}
 use Rattle.std.proofs.lemmas.Bool.{le-leb}
-use Rattle.std.specs.List.{AllByRecursion as All}
+use Rattle.std.specs.List.{AllByRecursion}
 use Rattle.fault.specs.declared.Fault.{Fault}
 use Rattle.fault.specs.declared.Reason.TheVariants as reason
 use Rattle.fault.specs.Faults.{unplaced}
@@ -23,13 +23,13 @@ use Rattle.sheet_reader.proofs.Lines.{line_read_is_writing, writing_is_read, lin
 use Rattle.sheet_reader.proofs.Flags.{once_is_few}
 
 -- what is written of lines that fit keeps the limits on bytes
-all_clean : (ls : List SheetLine) → All Fit ls → All (λ l. is_clean (line_bytes l) ≡ true) ls
+all_clean : (ls : List SheetLine) → AllByRecursion Fit ls → AllByRecursion (λ l. is_clean (line_bytes l) ≡ true) ls
 all_clean ls f = All-weaker Fit _ line_is_clean ls f
 
-all_free : (ls : List SheetLine) → All Fit ls → All (Free 10) (map line_bytes ls)
+all_free : (ls : List SheetLine) → AllByRecursion Fit ls → AllByRecursion (Free 10) (map line_bytes ls)
 all_free ls f = All-map (Free 10) line_bytes ls (All-weaker Fit _ (λ l h. clean_is_free (line_bytes l) (line_is_clean l h)) ls f)
 
-all_short : (ls : List SheetLine) → All Fit ls → All (λ p. length p ≤ 80) (map line_bytes ls)
+all_short : (ls : List SheetLine) → AllByRecursion Fit ls → AllByRecursion (λ p. length p ≤ 80) (map line_bytes ls)
 all_short ls f = All-map _ line_bytes ls (All-weaker Fit _ line_is_short ls f)
 
 module _ (L : Levels) where

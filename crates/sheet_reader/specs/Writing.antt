@@ -1,6 +1,6 @@
 -- The one text of the lines of a level sheet, and what a sheet may hold. Assumes nothing.
 use Rattle.std.specs.Prelude.{◌≡◌, ℕ, ◌<◌, List, [], ◌∷◌, map, Ok, Err, decimal, Result, ◌≢◌}
-use Rattle.std.specs.List.{AllByRecursion as All}
+use Rattle.std.specs.List.{AllByRecursion}
 use Rattle.fault.specs.declared.Fault.{Fault}
 use Rattle.levels.specs.Scheme.{Levels}
 use Rattle.sheet.specs.declared.LevelSheet.{LevelSheet}
@@ -42,19 +42,19 @@ pub record Fit (l : SheetLine) : Type 0 where
 -- no name has two lines
 abbrev pub Once : List SheetLine → Type 0
 Once [] = Unit {0}
-Once (l ∷ ls) = All (λ k. l.name ≢ k.name) ls × Once ls
+Once (l ∷ ls) = AllByRecursion (λ k. l.name ≢ k.name) ls × Once ls
 
 -- the name of each line has its level, and a name that no line has is at the level low
 abbrev pub LinesGiveLevels : Type 0
 LinesGiveLevels =
-    (low : ℕ) (ls : List SheetLine) → All Fit ls → Once ls
-    → All (λ l. level_of (sheet_of low ls) l.name ≡ l.level) ls × ((m : Name) → FitName m → All (λ l. m ≢ l.name) ls → level_of (sheet_of low ls) m ≡ low)
+    (low : ℕ) (ls : List SheetLine) → AllByRecursion Fit ls → Once ls
+    → AllByRecursion (λ l. level_of (sheet_of low ls) l.name ≡ l.level) ls × ((m : Name) → FitName m → AllByRecursion (λ l. m ≢ l.name) ls → level_of (sheet_of low ls) m ≡ low)
 
 -- what a sheet may hold for a scheme; that it has at most 48 lines, and that its text keeps the limits on bytes, follows
 pub record SheetFor (L : Levels) (ls : List SheetLine) : Type 0 where
-  pub fit : All Fit ls
+  pub fit : AllByRecursion Fit ls
   pub once : Once ls
-  pub levels : All (λ l. l.level < L.count) ls
+  pub levels : AllByRecursion (λ l. l.level < L.count) ls
 
 -- a text is read as lines exactly if it is the writing of them, and they make a sheet for the scheme
 abbrev pub ReadingInvertsWriting : Type 0

@@ -2,7 +2,7 @@
 use Rattle.std.proofs.Common.{◌≡◌, ℕ, ◌+◌, ◌-◌, ◌<◌, ◌≤◌, Bool, true, false, cond, leb, List, [], ◌∷◌, ◌++◌, map, length, take, replicate, Ok, Err, Result, sym, refl, ap, ◌∙◌, subst, append_assoc, append-nil, arith}
 use Rattle.std.proofs.lemmas.List.{length_push, take_at, length-map}
 use Rattle.std.proofs.lemmas.Bool.{leb-true, leb-false, le-leb, lt-leb}
-use Rattle.std.specs.List.{AllByRecursion as All}
+use Rattle.std.specs.List.{AllByRecursion}
 use Rattle.fault.specs.declared.Fault.{Fault}
 use Rattle.fault.specs.declared.Reason.TheVariants as reason
 use Rattle.fault.specs.Faults.{unplaced}
@@ -43,15 +43,15 @@ kept_is_built acc n (l ∷ ls) h =
     )
 
 -- what is written of lines that fit keeps the limits on bytes
-all_clean : (ls : List SwitchLine) → All Fit ls → All (λ l. is_clean (line_bytes l) ≡ true) ls
+all_clean : (ls : List SwitchLine) → AllByRecursion Fit ls → AllByRecursion (λ l. is_clean (line_bytes l) ≡ true) ls
 all_clean [] f = tt
 all_clean (l ∷ ls) f = (line_is_clean l f.0, all_clean ls f.1)
 
-all_free : (ls : List SwitchLine) → All Fit ls → All (Free 10) (map line_bytes ls)
+all_free : (ls : List SwitchLine) → AllByRecursion Fit ls → AllByRecursion (Free 10) (map line_bytes ls)
 all_free [] f = tt
 all_free (l ∷ ls) f = (clean_is_free (line_bytes l) (line_is_clean l f.0), all_free ls f.1)
 
-all_short : (ls : List SwitchLine) → All Fit ls → All (λ p. length p ≤ 80) (map line_bytes ls)
+all_short : (ls : List SwitchLine) → AllByRecursion Fit ls → AllByRecursion (λ p. length p ≤ 80) (map line_bytes ls)
 all_short [] f = tt
 all_short (l ∷ ls) f = (line_is_short l f.0, all_short ls f.1)
 
@@ -66,7 +66,7 @@ reading_is_written t ls e =
     let x = cond_ok (leb (length t) 8192) (lines_in t) (unplaced reason.Overlong) ls e in
     let a = accepted_text_is_written parse keep line_bytes Fit line_read_is_writing writing_is_read strict [] ls t x.1 in
     let k = built_is_kept [] ls 0 a.0 (omega arith) a.4 in
-    (a.1 ∙ ap written k.0, (k.1, subst (λ (x : List SwitchLine). All Fit x) k.0 a.2))
+    (a.1 ∙ ap written k.0, (k.1, subst (λ (x : List SwitchLine). AllByRecursion Fit x) k.0 a.2))
 
 written_is_reading : (t : List ℕ) (ls : List SwitchLine) → (t ≡ written ls) × Sheet ls → reading t ≡ Ok ls
 written_is_reading t ls h =

@@ -1,6 +1,6 @@
 -- The one text of a switch sheet, and what a sheet may hold. Assumes nothing.
 use Rattle.std.specs.Prelude.{◌≡◌, ℕ, ◌^◌, ◌<◌, ◌≤◌, List, [], ◌∷◌, map, length, take, Some, None, Ok, Err, decimal, Option, Result, ◌≢◌}
-use Rattle.std.specs.List.{AllByRecursion as All}
+use Rattle.std.specs.List.{AllByRecursion}
 use Rattle.fault.specs.declared.Fault.{Fault}
 use Rattle.text.specs.Texts.{fed}
 use Rattle.text.specs.Pieces.{joined}
@@ -41,7 +41,7 @@ pub record Fit (l : SwitchLine) : Type 0 where
 
 -- what a sheet may hold; that its text keeps the limits on bytes follows
 abbrev pub Sheet : List SwitchLine → Type 0
-Sheet ls = (length ls ≤ sheet_limit) × All Fit ls
+Sheet ls = (length ls ≤ sheet_limit) × AllByRecursion Fit ls
 
 -- a text is read as lines exactly if it is the writing of them, and they make a sheet
 abbrev pub ReadingInvertsWriting : Type 0

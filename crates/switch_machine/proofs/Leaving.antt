@@ -3,7 +3,7 @@ use Rattle.std.proofs.Common.{◌≡◌, ℕ, zero, suc, ◌-◌, ◌<◌, ◌�
 use Rattle.std.proofs.ByRecursion.{All-take}
 use Rattle.std.proofs.lemmas.List.{take-append-drop, length-take-le, length-drop, length-append, length-replicate}
 use Rattle.std.proofs.lemmas.Bool.{and_parts, and_from, eqb-true, lt-ltb, le-leb, lt-leb, eq-eqb, false≢true}
-use Rattle.std.specs.List.{AllByRecursion as All}
+use Rattle.std.specs.List.{AllByRecursion}
 use Rattle.fault.specs.declared.Reason.TheVariants as reason
 use Rattle.fault.specs.Faults.{unplaced}
 use Rattle.switch.specs.declared.line.SwitchLine.{SwitchLine}
@@ -38,7 +38,7 @@ blanks_are (l ∷ ls) e =
     let parts = and_parts (is_blank l) (all_blank ls) e in
     ap (λ x. x ∷ ls) (blank_is l parts.0) ∙ ap (λ xs. blank ∷ xs) (blanks_are ls parts.1)
 
-pub left_by_some : (lines : List SwitchLine) → sheet_limit ≤ length lines → All Fit lines → all_blank (drop sheet_limit lines) ≡ true → (text : List ℕ) × Leaves text lines
+pub left_by_some : (lines : List SwitchLine) → sheet_limit ≤ length lines → AllByRecursion Fit lines → all_blank (drop sheet_limit lines) ≡ true → (text : List ℕ) × Leaves text lines
 left_by_some lines long fit blanks =
     let ls = take sheet_limit lines in
     let count : length ls ≡ sheet_limit = length-take-le sheet_limit lines long in
@@ -53,7 +53,7 @@ made_if (Some channel) value e = and_from _ _ (le-leb 16 channel e.0) (le-leb ch
 fit_if : (l : SwitchLine) → Fit l → is_fit l ≡ true
 fit_if l f = and_from _ _ (lt-ltb _ _ f.channel) (and_from _ _ (le-leb _ _ f.low) (made_if l.out l.value f.out))
 
-all_fit_front : (ls : List SwitchLine) (n : ℕ) → All Fit ls → all_fit (ls ++ replicate n blank) ≡ true
+all_fit_front : (ls : List SwitchLine) (n : ℕ) → AllByRecursion Fit ls → all_fit (ls ++ replicate n blank) ≡ true
 all_fit_front [] zero f = refl
 all_fit_front [] (suc n) f = all_fit_front [] n f
 all_fit_front (l ∷ ls) n (here, more) = and_from _ _ (fit_if l here) (all_fit_front ls n more)

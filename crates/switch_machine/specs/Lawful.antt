@@ -2,7 +2,7 @@
 use Rattle.std.specs.Prelude.{◌≡◌, ℕ, ◌≤◌, true, List, [], ◌∷◌, length, Some, None, Option, nat_le, nat_lt, slice_index}
 use Rattle.std.proofs.Common.{arith}
 use Rattle.std.proofs.lemmas.Bool.{and_parts, cond_both, leb-true}
-use Rattle.std.specs.List.{AllByRecursion as All}
+use Rattle.std.specs.List.{AllByRecursion}
 use Rattle.machine.specs.Meaning.{Out, Lawful}
 use Rattle.switch.specs.declared.line.SwitchLine.{SwitchLine}
 use Rattle.ticket.specs.declared.Ticket.{Ticket}
@@ -12,9 +12,9 @@ use Rattle.switch_machine.specs.Switching.{fits, first_fit, made_by, outcome_of,
 -- the line, if any, makes one out-ticket at most
 abbrev MakesOut : Option SwitchLine → Type 0
 MakesOut None = Unit {0}
-MakesOut (Some l) = All Out (made_by l.out l.value) × (length (made_by l.out l.value) ≤ 16)
+MakesOut (Some l) = AllByRecursion Out (made_by l.out l.value) × (length (made_by l.out l.value) ≤ 16)
 
-made_out : (out : Option ℕ) (value : ℕ) → is_made out value ≡ true → All Out (made_by out value) × (length (made_by out value) ≤ 16)
+made_out : (out : Option ℕ) (value : ℕ) → is_made out value ≡ true → AllByRecursion Out (made_by out value) × (length (made_by out value) ≤ 16)
 made_out None value e = (tt, omega arith)
 made_out (Some channel) value e =
     let parts = and_parts (nat_le 16 channel) (nat_le channel 31) e in
@@ -31,7 +31,7 @@ few : (words : List ℕ) (o : Option SwitchLine) → MakesOut o → length (outc
 few words None m = omega arith
 few words (Some l) m = m.1
 
-outward : (words : List ℕ) (o : Option SwitchLine) → MakesOut o → All Out (outcome_of words o).made
+outward : (words : List ℕ) (o : Option SwitchLine) → MakesOut o → AllByRecursion Out (outcome_of words o).made
 outward words None m = tt
 outward words (Some l) m = m.0
 

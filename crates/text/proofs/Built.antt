@@ -1,6 +1,6 @@
 -- A text is accepted exactly if it is the writing of parts that build the state. Assumes nothing.
 use Rattle.std.proofs.Common.{◌≡◌, ℕ, ◌+◌, true, List, [], ◌∷◌, map, Ok, Result, sym, refl, ap, ◌∙◌, subst}
-use Rattle.std.specs.List.{AllByRecursion as All}
+use Rattle.std.specs.List.{AllByRecursion}
 use Rattle.fault.specs.declared.Fault.{Fault}
 use Rattle.text.specs.Building.{two_steps, Built}
 use Rattle.text.specs.Pieces.{pieces}
@@ -20,7 +20,7 @@ module _
     (forth : (n : ℕ) (a : A) → Fit a → parse n (bytes a) ≡ Ok a)
   where
     leads_back : (m : Manner) (s t : S) (n : ℕ) (ps : List (List ℕ)) → Leads m (two_steps parse build) s n ps t
-        → (xs : List A) × (ps ≡ map bytes xs) × All Fit xs × All (λ a. passes m (bytes a) ≡ true) xs × Built build s n xs t
+        → (xs : List A) × (ps ≡ map bytes xs) × AllByRecursion Fit xs × AllByRecursion (λ a. passes m (bytes a) ≡ true) xs × Built build s n xs t
     leads_back m s t n [] h = ([], refl, tt, tt, h)
     leads_back m s t n (p ∷ ps) h =
         let x = then_ok (parse (n + 1) p) (λ a. build s (n + 1) a) h.0 h.2 in
@@ -34,18 +34,18 @@ module _
           (h.0, x.2, r.4),
         )
 
-    leads_forth : (m : Manner) (s t : S) (n : ℕ) (xs : List A) → All Fit xs → All (λ a. passes m (bytes a) ≡ true) xs → Built build s n xs t → Leads m (two_steps parse build) s n (map bytes xs) t
+    leads_forth : (m : Manner) (s t : S) (n : ℕ) (xs : List A) → AllByRecursion Fit xs → AllByRecursion (λ a. passes m (bytes a) ≡ true) xs → Built build s n xs t → Leads m (two_steps parse build) s n (map bytes xs) t
     leads_forth m s t n [] f c h = h
     leads_forth m s t n (a ∷ xs) f c h =
         (h.0, c.0, ok_then (λ x. build s (n + 1) x) (Ok h.0) (forth (n + 1) a f.0) h.1, leads_forth m h.0 t (n + 1) xs f.1 c.1 h.2)
 
     pub accepted_text_is_written : (m : Manner) (s t : S) (text : List ℕ) → on_lines m (two_steps parse build) s 0 (pieces 10 text) ≡ Ok t
-        → (xs : List A) × TextOf m text (map bytes xs) × All Fit xs × All (λ a. passes m (bytes a) ≡ true) xs × Built build s 0 xs t
+        → (xs : List A) × TextOf m text (map bytes xs) × AllByRecursion Fit xs × AllByRecursion (λ a. passes m (bytes a) ≡ true) xs × Built build s 0 xs t
     accepted_text_is_written m s t text e =
         let x = accepted_text_is_lines (two_steps parse build) m s t text e in
         let r = leads_back m s t 0 x.0 x.2 in
         (r.0, subst (λ (ps : List (List ℕ)). TextOf m text ps) r.1 x.1, r.2, r.3, r.4)
 
-    pub written_text_is_accepted : (m : Manner) (s t : S) (xs : List A) → All Fit xs → All (λ a. passes m (bytes a) ≡ true) xs → All (Free 10) (map bytes xs) → Built build s 0 xs t
+    pub written_text_is_accepted : (m : Manner) (s t : S) (xs : List A) → AllByRecursion Fit xs → AllByRecursion (λ a. passes m (bytes a) ≡ true) xs → AllByRecursion (Free 10) (map bytes xs) → Built build s 0 xs t
         → on_lines m (two_steps parse build) s 0 (pieces 10 (fed (map bytes xs))) ≡ Ok t
     written_text_is_accepted m s t xs f c free h = lines_are_accepted (two_steps parse build) m s t 0 (map bytes xs) free (leads_forth m s t 0 xs f c h)

@@ -2,7 +2,7 @@
 use Rattle.std.proofs.Common.{◌≡◌, ℕ, zero, suc, ◌+◌, ◌-◌, ◌<◌, ◌≤◌, Bool, true, false, cond, eqb, List, [], ◌∷◌, ◌++◌, length, get_or, take, drop, sym, refl, ap, ◌∙◌, subst, append-nil, add-one, arith, length-append}
 use Rattle.std.proofs.lemmas.List.{take_all, take_rest}
 use Rattle.std.proofs.lemmas.Bool.{eqb-true, eq-eqb, ne_eqb}
-use Rattle.std.specs.List.{AllByRecursion as All}
+use Rattle.std.specs.List.{AllByRecursion}
 use Rattle.text.specs.Pieces.{first, others, pieces, marked, joined}
 
 -- no mark m stands in the bytes
@@ -76,6 +76,6 @@ pub one_piece : (m : ℕ) (bs p : List ℕ) → pieces m bs ≡ p ∷ [] → bs 
 one_piece m bs p e = sym (pieces_rejoin m bs) ∙ ap (joined m) e ∙ append-nil p
 
 -- pieces that hold no mark are cut again where they were joined
-pub joined_pieces_part : (m : ℕ) (p : List ℕ) (ps : List (List ℕ)) → Free m p → All (Free m) ps → pieces m (joined m (p ∷ ps)) ≡ p ∷ ps
+pub joined_pieces_part : (m : ℕ) (p : List ℕ) (ps : List (List ℕ)) → Free m p → AllByRecursion (Free m) ps → pieces m (joined m (p ∷ ps)) ≡ p ∷ ps
 joined_pieces_part m p [] f fs = ap (pieces m) (append-nil p) ∙ pieces_free m p f
 joined_pieces_part m p (q ∷ qs) f fs = pieces_mark m p (joined m (q ∷ qs)) f ∙ ap (λ l. p ∷ l) (joined_pieces_part m q qs fs.0 fs.1)

@@ -2,7 +2,7 @@
 use Rattle.std.proofs.Common.{◌≡◌, ℕ, ◌+◌, ◌*◌, ◌≤◌, Bool, true, false, eqb, leb, List, [], ◌∷◌, ◌++◌, length, refl, subst, ⊎_elim, mul-suc, arith, length-append}
 use Rattle.std.proofs.lemmas.Bool.{and_parts, and_from, both_ways, cases_Bool, eqb-true, le-leb}
 use Rattle.std.proofs.lemmas.Bool.Decides.{nat_tests}
-use Rattle.std.specs.List.{AllByRecursion as All}
+use Rattle.std.specs.List.{AllByRecursion}
 use Rattle.text.specs.Classes.{is_digit, is_printable}
 use Rattle.text.specs.Lines.{all_printable, is_clean}
 use Rattle.text.specs.Numbers.{all_digits}
@@ -36,7 +36,7 @@ printable_append (x ∷ xs) ys e f =
     let a = and_parts (is_printable x) (all_printable xs) e in
     and_from (is_printable x) (all_printable (xs ++ ys)) a.0 (printable_append xs ys a.1 f)
 
-pub printable_marked : (m : ℕ) (ps : List (List ℕ)) → is_printable m ≡ true → All (λ p. all_printable p ≡ true) ps → all_printable (marked m ps) ≡ true
+pub printable_marked : (m : ℕ) (ps : List (List ℕ)) → is_printable m ≡ true → AllByRecursion (λ p. all_printable p ≡ true) ps → all_printable (marked m ps) ≡ true
 printable_marked m [] e h = refl
 printable_marked m (p ∷ ps) e h =
     and_from (is_printable m) (all_printable (p ++ marked m ps)) e (printable_append p (marked m ps) h.0 (printable_marked m ps e h.1))
@@ -47,7 +47,7 @@ length_marked m p ps = let e = length-append p (marked m ps) in omega arith
 pub short_printable_is_clean : (bs : List ℕ) → length bs ≤ 80 → all_printable bs ≡ true → is_clean bs ≡ true
 short_printable_is_clean bs h e = and_from (leb (length bs) 80) (all_printable bs) (le-leb (length bs) 80 h) e
 
-pub length_fed : (k : ℕ) (ps : List (List ℕ)) → All (λ p. length p ≤ k) ps → length (fed ps) ≤ (k + 1) * length ps
+pub length_fed : (k : ℕ) (ps : List (List ℕ)) → AllByRecursion (λ p. length p ≤ k) ps → length (fed ps) ≤ (k + 1) * length ps
 length_fed k [] h = omega arith
 length_fed k (p ∷ ps) h =
     let e = length-append p (10 ∷ fed ps) in

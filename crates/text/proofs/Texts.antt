@@ -2,7 +2,7 @@
 use Rattle.std.proofs.Common.{◌≡◌, ℕ, ◌+◌, Bool, true, false, cond, eqb, List, [], ◌∷◌, ◌++◌, length, Ok, Err, Result, refl, ap, ◌∙◌, subst, inl, inr, ⊎_elim, append_assoc, append-nil, arith}
 use Rattle.std.proofs.lemmas.List.{nil_from_length}
 use Rattle.std.proofs.lemmas.Bool.{eqb-true}
-use Rattle.std.specs.List.{AllByRecursion as All}
+use Rattle.std.specs.List.{AllByRecursion}
 use Rattle.fault.specs.declared.Fault.{Fault}
 use Rattle.text.specs.Pieces.{pieces, joined, first, others}
 use Rattle.text.specs.Places.{ragged_at}
@@ -51,7 +51,7 @@ module _ {S : Type 0} (step : Step S) where
   no_rest strict s n = refl
   no_rest lax s n = refl
 
-  pub lines_are_accepted : (m : Manner) (s t : S) (n : ℕ) (ps : List (List ℕ)) → All (Free 10) ps → Leads m step s n ps t → on_lines m step s n (pieces 10 (fed ps)) ≡ Ok t
+  pub lines_are_accepted : (m : Manner) (s t : S) (n : ℕ) (ps : List (List ℕ)) → AllByRecursion (Free 10) ps → Leads m step s n ps t → on_lines m step s n (pieces 10 (fed ps)) ≡ Ok t
   lines_are_accepted m s t n [] f e = no_rest m s (n + 1) ∙ ap (λ x. Ok x) e
   lines_are_accepted m s t n (p ∷ ps) f h =
       ap (on_lines m step s n) (pieces_mark 10 p (fed ps) f.0)

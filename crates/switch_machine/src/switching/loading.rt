@@ -1,6 +1,6 @@
 // Putting the lines of a switch sheet into a machine.
 ghost use Rattle.std.specs.Prelude.{◌≡◌, true, []};
-ghost use Rattle.std.specs.List.{AllByRecursion as All};
+ghost use Rattle.std.specs.List.{AllByRecursion};
 ghost use Rattle.switch.specs.Writing.{Fit};
 ghost use Rattle.switch_machine.specs.Loading.{loading, Holds, LeftByText};
 ghost use Rattle.switch_machine.specs.Sound.{is_made, is_fit, all_fit, is_blank, all_blank, is_left};
@@ -39,7 +39,7 @@ impl<'a> Switch<'a> {
 
 fn all_fit(lines: &[SwitchLine]) -> bool
     ensures value { result ≡ all_fit lines.now }
-    ensures fit { result ≡ true → All Fit lines.now }
+    ensures fit { result ≡ true → AllByRecursion Fit lines.now }
 {
     for line in lines {
         if !is_fit(*line) {

@@ -2,7 +2,7 @@ use Rattle.std.proofs.Common.{sym, refl, subst}
 use Rattle.std.proofs.ByRecursion.{All-more}
 use Rattle.std.proofs.lemmas.List.{take_all}
 use Rattle.std.proofs.lemmas.Bool.{false≢true}
-use Rattle.std.specs.List.{AllByRecursion as All}
+use Rattle.std.specs.List.{AllByRecursion}
 use Rattle.switch.specs.Reading.{blank}
 use Rattle.switch.specs.Writing.{Fit}
 use Rattle.switch_machine.specs.Sound.{is_fit}
@@ -25,5 +25,5 @@ loop-line-preserved c =
 pub returns : goal.returns
 returns c = record {
   value = each_all is_fit _ c.loop-line.line-index c.loop-line-test.false c.loop-line.invariant.0;
-  fit = λ _. subst (All Fit) (take_all c.loop-line.line-index c.args.lines.now c.loop-line-test.false) c.loop-line.invariant.1;
+  fit = λ _. subst (AllByRecursion Fit) (take_all c.loop-line.line-index c.args.lines.now c.loop-line-test.false) c.loop-line.invariant.1;
 }
