@@ -15,7 +15,7 @@ use Rattle.program.specs.declared.rows.Term.{Term}
 use Rattle.program.specs.Lines.{parse}
 use Rattle.program.specs.Building.{blank_row, blank_term, Tables, tables, build}
 use Rattle.program.specs.Nesting.{opened, Below}
-use Rattle.program.specs.Reading.{ended, tables_in, reading, padded, Goes_on, Filled}
+use Rattle.program.specs.Reading.{ended, tables_in, reading, padded, GoesOn, Filled}
 use Rattle.program.proofs.Stacks.{popped}
 
 -- j rows and `used` terms are read, blanks follow them, and what is left gives the result
@@ -48,14 +48,14 @@ begins text rows terms at h a b c d =
 abbrev after : ℕ → List ℕ → Result Tables Fault → Result Tables Fault
 after n rest r = then (then r (λ s. on_lines strict (two_steps parse build) s n (pieces 10 rest))) (λ s. ended s s.stack)
 
-went : (x : Result Tables Fault) (n : ℕ) (rows : List Row) (terms : List Term) (stack : List ℕ) → Goes_on x (Ok n) rows terms stack → x ≡ Ok (tables rows (take n terms) stack)
+went : (x : Result Tables Fault) (n : ℕ) (rows : List Row) (terms : List Term) (stack : List ℕ) → GoesOn x (Ok n) rows terms stack → x ≡ Ok (tables rows (take n terms) stack)
 went (Ok t) n rows terms stack h =
     let e : length t.terms ≡ n = let q = h.0 in cc in
     let ts : t.terms ≡ take n terms = sym h.2 ∙ ap (λ m. take m terms) e in
     ap (λ r. Ok (tables r t.terms t.stack)) (sym h.1) ∙ ap (λ ts. Ok (tables rows ts t.stack)) ts ∙ ap (λ s. Ok (tables rows (take n terms) s)) (sym h.3)
 went (Err f) n rows terms stack h = let z : ◌≡◌ {A = ℕ} 0 1 = cc in absurd (omega arith)
 
-stopped : (x : Result Tables Fault) (g : Fault) (rows : List Row) (terms : List Term) (stack : List ℕ) → Goes_on x (Err g) rows terms stack → x ≡ Err g
+stopped : (x : Result Tables Fault) (g : Fault) (rows : List Row) (terms : List Term) (stack : List ℕ) → GoesOn x (Err g) rows terms stack → x ≡ Err g
 stopped (Ok t) g rows terms stack h = let e = h.0 in let z : ◌≡◌ {A = ℕ} 0 1 = cc in absurd (omega arith)
 stopped (Err f) g rows terms stack h = let e : f ≡ g = cc in ap (λ x. Err x) e
 
@@ -93,7 +93,7 @@ module _ {text left : List ℕ} {rows : List Row} {terms : List Term} {at : List
         ∙ ap (λ ps. then (on_lines strict (two_steps parse build) state j ps) (λ s. ended s s.stack)) e
         ∙ ap (λ b. after (j + 1) rest (cond b (two_steps parse build state (j + 1) p) (Err (ragged_at (j + 1))))) clean
 
-    pub one_more : (n : ℕ) (rows' : List Row) (terms' : List Term) (at' : List ℕ) (depth' : ℕ) → j < 128 → used ≤ n → n ≤ 512 → length rows' ≡ length rows → length terms' ≡ length terms → Below depth' at' (j + 1) → drop (j + 1) rows' ≡ drop (j + 1) rows → drop n terms' ≡ drop n terms → Goes_on (two_steps parse build state (j + 1) p) (Ok n) (take (j + 1) rows') terms' (opened depth' at') → ReadSoFar text rest rows' terms' at' depth' n (j + 1)
+    pub one_more : (n : ℕ) (rows' : List Row) (terms' : List Term) (at' : List ℕ) (depth' : ℕ) → j < 128 → used ≤ n → n ≤ 512 → length rows' ≡ length rows → length terms' ≡ length terms → Below depth' at' (j + 1) → drop (j + 1) rows' ≡ drop (j + 1) rows → drop n terms' ≡ drop n terms → GoesOn (two_steps parse build state (j + 1) p) (Ok n) (take (j + 1) rows') terms' (opened depth' at') → ReadSoFar text rest rows' terms' at' depth' n (j + 1)
     one_more n rows' terms' at' depth' lt grows le same_long same_long_terms below' kept kept_terms goes =
         let a = s.room in
         let b = s.room_terms in
@@ -109,7 +109,7 @@ module _ {text left : List ℕ} {rows : List Row} {terms : List Term} {at : List
           same = by_line ∙ ap (after (j + 1) rest) (went _ n (take (j + 1) rows') terms' (opened depth' at') goes);
         }
 
-    pub refused : (f : Fault) (r : Result ℕ Fault) (rows' : List Row) (terms' : List Term) (rows'' : List Row) (stack' : List ℕ) → r ≡ Err f → Goes_on (two_steps parse build state (j + 1) p) (Err f) rows'' terms' stack' → Filled (reading text) r rows' terms'
+    pub refused : (f : Fault) (r : Result ℕ Fault) (rows' : List Row) (terms' : List Term) (rows'' : List Row) (stack' : List ℕ) → r ≡ Err f → GoesOn (two_steps parse build state (j + 1) p) (Err f) rows'' terms' stack' → Filled (reading text) r rows' terms'
     refused f r rows' terms' rows'' stack' told goes = filled_err _ f r rows' terms' told (reading_is ∙ by_line ∙ ap (after (j + 1) rest) (stopped _ f rows'' terms' stack' goes))
 
   module _ (e : left ≡ []) where

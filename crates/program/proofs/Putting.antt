@@ -10,7 +10,7 @@ use Rattle.program.specs.declared.rows.Term.{Term}
 use Rattle.program.specs.Lines.{Line, parse, LineRead}
 use Rattle.program.specs.Building.{Tables, tables, build}
 use Rattle.program.specs.Nesting.{Builds}
-use Rattle.program.specs.Reading.{Goes_on}
+use Rattle.program.specs.Reading.{GoesOn}
 use Rattle.program.proofs.Adding.{added_ok, added_err}
 use Rattle.program.proofs.Tables.{terms_after}
 
@@ -27,11 +27,11 @@ read_err : (x : Result Line Fault) (f : Fault) (part : List Term) → LineRead x
 read_err (Ok l) f part h = let e = h.0 in let z : ◌≡◌ {A = ℕ} 0 1 = cc in absurd (omega arith)
 read_err (Err g) f part h = let e : g ≡ f = cc in ap (λ x. Err x) e
 
-goes_err : (x : Result Tables Fault) (f : Fault) (r : Result ℕ Fault) (rows : List Row) (terms : List Term) (stack : List ℕ) → r ≡ Err f → x ≡ Err f → Goes_on x r rows terms stack
-goes_err x f r rows terms stack told e = subst (λ (y : Result Tables Fault). Goes_on y r rows terms stack) (sym e) told
+goes_err : (x : Result Tables Fault) (f : Fault) (r : Result ℕ Fault) (rows : List Row) (terms : List Term) (stack : List ℕ) → r ≡ Err f → x ≡ Err f → GoesOn x r rows terms stack
+goes_err x f r rows terms stack told e = subst (λ (y : Result Tables Fault). GoesOn y r rows terms stack) (sym e) told
 
 module _ (s : Tables) (n : ℕ) (line : List ℕ) where
-  pub unread : (f : Fault) (r : Result ℕ Fault) (part : List Term) (rows : List Row) (terms : List Term) (stack : List ℕ) → r ≡ Err f → LineRead (parse n line) (Err f) part → Goes_on (two_steps parse build s n line) r rows terms stack
+  pub unread : (f : Fault) (r : Result ℕ Fault) (part : List Term) (rows : List Row) (terms : List Term) (stack : List ℕ) → r ≡ Err f → LineRead (parse n line) (Err f) part → GoesOn (two_steps parse build s n line) r rows terms stack
   unread f r part rows terms stack told h = goes_err _ f r rows terms stack told (ap (λ x. then x (λ l. build s n l)) (read_err (parse n line) f part h))
 
 module _ (rows : List Row) (terms : List Term) (stack : List ℕ) (j used n : ℕ) (line : List ℕ) (k : Kind) (count : ℕ) (part : List Term) (le : used ≤ length terms) (read : LineRead (parse n line) (Ok (k, count)) part) where
@@ -41,11 +41,11 @@ module _ (rows : List Row) (terms : List Term) (stack : List ℕ) (j used n : �
   stepped : two_steps parse build (tables (take j rows) (take used terms) stack) n line ≡ build (tables (take j rows) (take used terms) stack) n (k, take count part)
   stepped = ap (λ x. then x (λ l. build (tables (take j rows) (take used terms) stack) n l)) (read_ok (parse n line) k count part read).0
 
-  pub unadded : (f : Fault) (r : Result ℕ Fault) (rows' : List Row) (terms' : List Term) (stack' : List ℕ) → r ≡ Err f → Builds rows stack j n row (Err f) rows' stack' → Goes_on (two_steps parse build (tables (take j rows) (take used terms) stack) n line) r rows' terms' stack'
+  pub unadded : (f : Fault) (r : Result ℕ Fault) (rows' : List Row) (terms' : List Term) (stack' : List ℕ) → r ≡ Err f → Builds rows stack j n row (Err f) rows' stack' → GoesOn (two_steps parse build (tables (take j rows) (take used terms) stack) n line) r rows' terms' stack'
   unadded f r rows' terms' stack' told b =
       goes_err _ f r rows' terms' stack' told (stepped ∙ added_err _ f rows' stack' (b (take used terms) (take count part) (length-take-le used terms le) (read_ok (parse n line) k count part read).1))
 
-  pub put : (rows' : List Row) (terms' : List Term) (stack' : List ℕ) → take (used + count) terms' ≡ take used terms ++ take count part → Builds rows stack j n row (Ok tt) rows' stack' → Goes_on (two_steps parse build (tables (take j rows) (take used terms) stack) n line) (Ok (used + count)) rows' terms' stack'
+  pub put : (rows' : List Row) (terms' : List Term) (stack' : List ℕ) → take (used + count) terms' ≡ take used terms ++ take count part → Builds rows stack j n row (Ok tt) rows' stack' → GoesOn (two_steps parse build (tables (take j rows) (take used terms) stack) n line) (Ok (used + count)) rows' terms' stack'
   put rows' terms' stack' copied b =
       let many = (read_ok (parse n line) k count part read).1 in
       let had = length-take-le used terms le in
@@ -53,5 +53,5 @@ module _ (rows : List Row) (terms : List Term) (stack : List ℕ) (j used n : �
       let t = x.0 in
       let ts = terms_after (tables (take j rows) (take used terms) stack) n (k, take count part) t x.1 in
       let long : length t.terms ≡ used + count = let a = ap length ts in let c = length-append (take used terms) (take count part) in omega arith in
-      subst (λ (y : Result Tables Fault). Goes_on y (Ok (used + count)) rows' terms' stack') (sym (stepped ∙ x.1))
+      subst (λ (y : Result Tables Fault). GoesOn y (Ok (used + count)) rows' terms' stack') (sym (stepped ∙ x.1))
       (ap (λ m. Ok m) (sym long), x.2, ap (λ m. take m terms') long ∙ copied ∙ sym ts, x.3)

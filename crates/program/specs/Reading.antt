@@ -60,9 +60,9 @@ abbrev pub terms_after : List ℕ → List Row → List Term → List Term
 terms_after t rows terms = cond (enough rows terms) (terms_left (length terms) (reading t)) terms
 
 -- the answer r, with the rows, terms and open rows, that one more line leaves; a refusal leaves any
-abbrev pub Goes_on : Result Tables Fault → Result ℕ Fault → List Row → List Term → List ℕ → Type 0
-Goes_on (Ok t) r rows terms stack = (r ≡ Ok (length t.terms)) × (rows ≡ t.rows) × (take (length t.terms) terms ≡ t.terms) × (stack ≡ t.stack)
-Goes_on (Err f) r rows terms stack = r ≡ Err f
+abbrev pub GoesOn : Result Tables Fault → Result ℕ Fault → List Row → List Term → List ℕ → Type 0
+GoesOn (Ok t) r rows terms stack = (r ≡ Ok (length t.terms)) × (rows ≡ t.rows) × (take (length t.terms) terms ≡ t.terms) × (stack ≡ t.stack)
+GoesOn (Err f) r rows terms stack = r ≡ Err f
 
 -- the answer r and the lent tables that what was read leaves; a refusal leaves any
 abbrev pub Filled : Result Tables Fault → Result ℕ Fault → List Row → List Term → Type 0

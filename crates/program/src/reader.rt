@@ -5,7 +5,7 @@ ghost use Rattle.program.specs.Lines.{parse};
 ghost use Rattle.program.specs.Building.{blank_row, blank_term, tables, build};
 ghost use Rattle.program.specs.Nesting.{opened, Below};
 ghost use Rattle.program.specs.Laws.{Accepts};
-ghost use Rattle.program.specs.Reading.{reading, answer, rows_after, terms_after, Goes_on, Filled};
+ghost use Rattle.program.specs.Reading.{reading, answer, rows_after, terms_after, GoesOn, Filled};
 
 use crate::add::{ROW_LIMIT, TERM_LIMIT, add_row};
 use crate::line::read_line;
@@ -25,7 +25,7 @@ fn put_line(
     used: usize,
 ) -> Result<usize, Fault>
     requires { (j ≤ 128) × ((128 ≤ length rows.old) × ((used ≤ 512) × ((512 ≤ length terms.old) × (Below stack.old.depth stack.old.at j)))) }
-    ensures value { Goes_on (two_steps parse build (tables (take j rows.old) (take used terms.old) (opened stack.old.depth stack.old.at)) (j + 1) line.now) result (take (j + 1) rows.new) terms.new (opened stack.new.depth stack.new.at) }
+    ensures value { GoesOn (two_steps parse build (tables (take j rows.old) (take used terms.old) (opened stack.old.depth stack.old.at)) (j + 1) line.now) result (take (j + 1) rows.new) terms.new (opened stack.new.depth stack.new.at) }
     ensures below { Below stack.new.depth stack.new.at (j + 1) }
     ensures rows { drop (j + 1) rows.new ≡ drop (j + 1) rows.old }
     ensures terms { IfOk result (λ n. (j < 128) × (used ≤ n) × (n ≤ 512) × (drop n terms.new ≡ drop n terms.old)) }
