@@ -19,10 +19,6 @@ QUIET = {".antt": re.compile(r'"(?:[^"\\\n]|\\.)*"|--[^\n]*'), ".rt": re.compile
 # what Rattle makes stands behind these
 HEADS = ("c", "goal", "l", "g", "args")
 MADE = re.compile(r"/proofs/(.*/)?(Answers|Invariants|Choices|Proof)\.antt$")
-# library words of the older kit that have another name today
-GONE = {}
-# where the plain respelling would fall together with another name
-SPECIAL = {}
 
 
 def files(top, *kinds):
@@ -50,7 +46,7 @@ def code(path):
 
 
 def library(top):
-    """Names that some file imports from the library."""
+    """Names that some file imports from std or a library below it."""
     found = set()
     for path in files(top, ".antt", ".rt"):
         for m in re.finditer(r"use (?:Rattle\.std|borrow|denote|lib|mathlib|native|Prim)[\w.]*\.\{([^}]*)\}", code(path)):
@@ -60,18 +56,15 @@ def library(top):
 
 def declared(top):
     """The names with a hyphen that specs, lemmas and ghost members declare or bind."""
-    names = collections.Counter()
+    names = set()
     for path in files(top, ".antt"):
         if not MADE.search(path):
-            for m in HYPHENED.finditer(code(path)):
-                if "goal." not in code(path)[max(0, m.start() - 5) : m.start()]:
-                    names[m[0]] += 1
+            text = code(path)
+            names.update(m[0] for m in HYPHENED.finditer(text) if not text[: m.start()].endswith("goal."))
     return names
 
 
 def spelled(name):
-    if name in SPECIAL:
-        return SPECIAL[name]
     if name[0].isupper() and not name.isupper():
         return "".join(w[:1].upper() + w[1:] for w in name.split("-"))
     return name.replace("-", "_")
@@ -79,7 +72,7 @@ def spelled(name):
 
 def table(top):
     lib = library(top)
-    return {n: spelled(n) for n in declared(top) if n not in lib and n not in GONE}
+    return {n: spelled(n) for n in declared(top) if n not in lib}
 
 
 def turned(path, text, names):
