@@ -1,25 +1,27 @@
 // A site program's rows, run by functions that call each other: a block, a row with the blocks that it opens, a repeat.
-ghost use Rattle.std.specs.Prelude.{◌≡◌, ◌+◌, ◌<◌, length, slice_index_or};
-ghost use Rattle.program.specs.Building.{blank_row};
-ghost use Rattle.interpreter.specs.Jobs.{Ready, Runs};
-ghost use Rattle.interpreter.specs.Places.{frames_at, next_at, block_at, row_at, repeat_at};
-ghost use Rattle.interpreter.specs.Sound.{Expressed, Sound};
+ghost use Rattle.interpreter.specs.Sound.{Sound};
+ghost use Rattle.interpreter.specs.OneProof.{sound_prop};
 
-use crate::evaluate::evaluate;
-use crate::job::Job;
+use crate::job::{Job, Stalled};
 use program::{Kind, Row, Term};
 
 #[derive(Clone, Copy)]
 pub struct Tables<'a> {
     pub rows: &'a [Row],
     pub terms: &'a [Term],
+    pub ghost sound: { Sound rows.now terms.now } by { sound_prop rows.now terms.now },
 }
 
 impl Tables<'_> {
+    ghost use Rattle.std.specs.Prelude.{◌≡◌, ◌+◌, ◌<◌, length, slice_index_or};
+    ghost use Rattle.program.specs.Building.{blank_row};
+    ghost use Rattle.interpreter.specs.Jobs.{Runs};
+    ghost use Rattle.interpreter.specs.Places.{frames_at, next_at, block_at, row_at, repeat_at};
+    ghost use Rattle.interpreter.specs.Sound.{Expressed};
+
     // The row behind a row and the blocks that it opens.
     fn after(&self, at: usize) -> usize
-        requires within { at < length self.now.rows.now }
-        requires sound { Sound self.now.rows.now self.now.terms.now }
+        requires { at < length self.now.rows.now }
         ensures { result ≡ next_at self.now.rows.now at }
     {
         let rows = self.rows;
@@ -34,37 +36,31 @@ impl Tables<'_> {
         }
     }
 
-    // Runs what is left of a block, from a row on. Returns whether it ended.
-    #[cycle(block_row_turns)]
-    pub fn block(&self, from: usize, job: &mut Job) -> bool
+    // Runs what is left of a block, from a row on.
+    #[cycle(run)]
+    pub(crate) fn block(&self, from: usize, job: &mut Job) -> Result<(), Stalled>
         requires within { from < length self.now.rows.now }
         requires inside { 0 < length (frames_at self.now.rows.now self.now.terms.now from) }
-        requires sound { Sound self.now.rows.now self.now.terms.now }
-        requires ready { Ready job.old }
         ensures { Runs job.old (block_at self.now.rows.now self.now.terms.now from) result job.new }
     {
         let rows = self.rows;
         let mut at = from;
         loop {
             match rows[at].kind {
-                Kind::Else | Kind::Close => return true,
+                Kind::Else | Kind::Close => return Ok(()),
                 _ => {
-                    if !self.row(at, job) {
-                        return false;
-                    }
+                    self.row(at, job)?;
                     at = self.after(at);
                 }
             }
         }
     }
 
-    // Runs a row, with the blocks that it opens. Returns whether it ended.
-    #[cycle(block_row_turns)]
-    fn row(&self, at: usize, job: &mut Job) -> bool
+    // Runs a row, with the blocks that it opens.
+    #[cycle(run)]
+    fn row(&self, at: usize, job: &mut Job) -> Result<(), Stalled>
         requires within { at < length self.now.rows.now }
         requires inside { 0 < length (frames_at self.now.rows.now self.now.terms.now at) }
-        requires sound { Sound self.now.rows.now self.now.terms.now }
-        requires ready { Ready job.old }
         ensures { Runs job.old (row_at self.now.rows.now self.now.terms.now at) result job.new }
     {
         let rows = self.rows;
@@ -75,44 +71,38 @@ impl Tables<'_> {
             Kind::Assign(variable) => job.store(variable, terms, row),
             Kind::Output(channel) => job.send(channel, terms, row),
             Kind::If => {
-                if !job.spend() {
-                    return false;
-                }
-                if evaluate(terms, row, &job.words, job.input) != 0 {
+                job.spend()?;
+                if job.evaluate(terms, row) != 0 {
                     return self.block(at + 1, job);
                 }
                 let end = row.partner as usize;
                 match rows[end].kind {
                     Kind::Else => self.block(end + 1, job),
-                    _ => true,
+                    _ => Ok(()),
                 }
             }
             Kind::While => self.turns(at, job),
-            Kind::Handler(_) | Kind::Else | Kind::Close => true,
+            Kind::Handler(_) | Kind::Else | Kind::Close => Ok(()),
         }
     }
 
-    // Runs the block behind a row again and again, while the row's test holds. Returns whether it ended.
-    #[cycle(block_row_turns)]
-    fn turns(&self, at: usize, job: &mut Job) -> bool
+    // Runs the block behind a row again and again, while the row's test holds.
+    #[cycle(run)]
+    fn turns(&self, at: usize, job: &mut Job) -> Result<(), Stalled>
         requires within { at + 1 < length self.now.rows.now }
         requires inside { 0 < length (frames_at self.now.rows.now self.now.terms.now (at + 1)) }
         requires expressed { Expressed self.now.terms.now (slice_index_or self.now.rows.now at blank_row) }
-        requires sound { Sound self.now.rows.now self.now.terms.now }
-        requires ready { Ready job.old }
         ensures { Runs job.old (repeat_at self.now.rows.now self.now.terms.now at) result job.new }
     {
         let rows = self.rows;
         let terms = self.terms;
         let row = rows[at];
-        'turn: while job.spend() {
-            if evaluate(terms, row, &job.words, job.input) == 0 {
-                return true;
+        loop {
+            job.spend()?;
+            if job.evaluate(terms, row) == 0 {
+                return Ok(());
             }
-            if !self.block(at + 1, job) {
-                return false;
-            }
+            self.block(at + 1, job)?;
         }
-        false
     }
 }

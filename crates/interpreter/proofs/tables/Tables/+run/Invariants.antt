@@ -1,7 +1,7 @@
 use Rattle.std.proofs.Common.{◌+◌, ◌-◌, ◌*◌, ◌<◌, length}
 use Rattle.interpreter.specs.Jobs.{Reaches}
 use Rattle.interpreter.specs.Places.{frames_at, block_at, repeat_at}
-use Rattle.interpreter.proofs.tables.Tables.+block_row_turns.Given as goal
+use Rattle.interpreter.proofs.tables.Tables.+run.Given as goal
 
 abbrev pub decreases-block : goal.decreases-block
 decreases-block l = 3 * l.job.now.left + 2
@@ -21,8 +21,8 @@ invariant-block-loop-at l =
 abbrev pub decreases-block-loop-at : goal.decreases-block-loop-at
 decreases-block-loop-at l = length l.self.rows.now - l.at
 
-abbrev pub invariant-turns-turn : goal.invariant-turns-turn
-invariant-turns-turn l = Reaches l.initial.job (repeat_at l.self.rows.now l.self.terms.now l.at) l.job (repeat_at l.self.rows.now l.self.terms.now l.at)
+abbrev pub invariant-turns-loop-job : goal.invariant-turns-loop-job
+invariant-turns-loop-job l = Reaches l.initial.job (repeat_at l.self.rows.now l.self.terms.now l.at) l.job (repeat_at l.self.rows.now l.self.terms.now l.at)
 
-abbrev pub decreases-turns-turn : goal.decreases-turns-turn
-decreases-turns-turn l = l.job.left
+abbrev pub decreases-turns-loop-job : goal.decreases-turns-loop-job
+decreases-turns-loop-job l = l.job.left
