@@ -73,7 +73,7 @@ behind_none rows c (suc i) h none =
 -- where a search for the first such row has come to
 pub begins : (rows : List Row) (c : ℕ) (r : Option ℕ)
     → MatchOption r (AllWithin (λ r. is_handler_of c r.kind ≡ false) rows 0 (length rows))
-        (λ i. (i < length rows) × HoldsAt (λ r. is_handler_of c r.kind ≡ true) rows i × AllWithin (λ r. is_handler_of c r.kind ≡ false) rows 0 i)
+    (λ i. (i < length rows) × HoldsAt (λ r. is_handler_of c r.kind ≡ true) rows i × AllWithin (λ r. is_handler_of c r.kind ≡ false) rows 0 i)
     → Begins rows c r
 begins rows c None none = behind_all rows c (length rows) (omega arith) (behind_none rows c (length rows) (omega arith) none)
 begins rows c (Some i) first = begins_here rows c i first.0 (behind_none rows c i (omega (arith, first.0)) first.2) (first.1 blank_row)

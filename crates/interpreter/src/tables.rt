@@ -24,12 +24,12 @@ impl Tables<'_> {
         requires { at < length self.now.rows.now }
         ensures { result ≡ next_at self.now.rows.now at }
     {
-        let rows = self.rows;
-        let end = rows[at].partner as usize;
-        match rows[at].kind {
+        let row = self.rows[at];
+        let end = row.partner as usize;
+        match row.kind {
             Kind::While => end + 1,
-            Kind::If => match rows[end].kind {
-                Kind::Else => rows[end].partner as usize + 1,
+            Kind::If => match self.rows[end].kind {
+                Kind::Else => self.rows[end].partner as usize + 1,
                 _ => end + 1,
             },
             _ => at + 1,
@@ -43,10 +43,10 @@ impl Tables<'_> {
         requires inside { 0 < length (frames_at self.now.rows.now self.now.terms.now from) }
         ensures { Runs job.old (block_at self.now.rows.now self.now.terms.now from) result job.new }
     {
-        let rows = self.rows;
+        // By place: the row behind a row may be blocks away.
         let mut at = from;
         loop {
-            match rows[at].kind {
+            match self.rows[at].kind {
                 Kind::Else | Kind::Close => return Ok(()),
                 _ => {
                     self.row(at, job)?;
@@ -63,20 +63,18 @@ impl Tables<'_> {
         requires inside { 0 < length (frames_at self.now.rows.now self.now.terms.now at) }
         ensures { Runs job.old (row_at self.now.rows.now self.now.terms.now at) result job.new }
     {
-        let rows = self.rows;
-        let terms = self.terms;
-        let row = rows[at];
+        let row = self.rows[at];
         match row.kind {
             Kind::Skip => job.spend(),
-            Kind::Assign(variable) => job.store(variable, terms, row),
-            Kind::Output(channel) => job.send(channel, terms, row),
+            Kind::Assign(variable) => job.store(variable, self.terms, row),
+            Kind::Output(channel) => job.send(channel, self.terms, row),
             Kind::If => {
                 job.spend()?;
-                if job.evaluate(terms, row) != 0 {
+                if job.evaluate(self.terms, row) != 0 {
                     return self.block(at + 1, job);
                 }
                 let end = row.partner as usize;
-                match rows[end].kind {
+                match self.rows[end].kind {
                     Kind::Else => self.block(end + 1, job),
                     _ => Ok(()),
                 }
@@ -94,12 +92,10 @@ impl Tables<'_> {
         requires expressed { Expressed self.now.terms.now (slice_index_or self.now.rows.now at blank_row) }
         ensures { Runs job.old (repeat_at self.now.rows.now self.now.terms.now at) result job.new }
     {
-        let rows = self.rows;
-        let terms = self.terms;
-        let row = rows[at];
+        let row = self.rows[at];
         loop {
             job.spend()?;
-            if job.evaluate(terms, row) == 0 {
+            if job.evaluate(self.terms, row) == 0 {
                 return Ok(());
             }
             self.block(at + 1, job)?;

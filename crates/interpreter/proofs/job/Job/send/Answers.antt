@@ -13,4 +13,4 @@ returns c =
     let spend = c.in_ok-spend.ensures in
     let few : c.args.self.now.made < 16 = omega (arith, eqb-false c.args.self.now.made 16 (sym c.if-is_full.ensures)) in
     output_runs c.args.self.now c.spend.new.self spend.job spend.due few
-        c.args.channel c.evaluate-value.result (expression_at c.args.terms.now c.args.row) _ c.evaluate-value.ensures
+    c.args.channel c.evaluate-value.result (expression_at c.args.terms.now c.args.row) _ c.evaluate-value.ensures

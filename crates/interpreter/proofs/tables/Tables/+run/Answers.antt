@@ -15,7 +15,7 @@ block-returns-in_err-row-in_default t c =
     let at = c.loop-at.at in
     let g = goes rows terms at c.args.self.now.sound c.loop-at.invariant.0 c.loop-at.invariant.1 c.in_default.not-Else c.in_default.not-Close in
     stalls_in_first c.args.job.now c.loop-at.job c.row.new.job (block_at rows terms c.args.from) (block_at rows terms at) c.loop-at.invariant.2
-        (row_at rows terms at) (block_at rows terms (next_at rows at)) g.is _ c.from_residual.result c.from_residual.ensures.0 c.in_err-row-in_default.ensures
+    (row_at rows terms at) (block_at rows terms (next_at rows at)) g.is _ c.from_residual.result c.from_residual.ensures.0 c.in_err-row-in_default.ensures
 
 pub block-loop-at-preserved : goal.block-loop-at-preserved
 block-loop-at-preserved t c =

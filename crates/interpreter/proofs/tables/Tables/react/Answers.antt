@@ -5,4 +5,4 @@ pub returns : goal.returns
 returns c =
     let ran = c.run_handler-ended in
     rw c.is_err.ensures.value
-        (reacts c.args.self.now.rows.now c.args.self.now.terms.now c.args.words.now c.args.slip.now c.args.ticket c.args.allowance _ ran.result ran.new.job ran.ensures)
+    (reacts c.args.self.now.rows.now c.args.self.now.terms.now c.args.words.now c.args.slip.now c.args.ticket c.args.allowance _ ran.result ran.new.job ran.ensures)
