@@ -9,4 +9,3 @@ pub mod Openings
 pub mod Outputs
 pub mod Reactions
 pub mod Steps
-pub mod Terms

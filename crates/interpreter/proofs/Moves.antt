@@ -1,5 +1,5 @@
 -- A reaction before and after one step. Assumes nothing.
-use Rattle.std.proofs.Common.{◌≡◌, ℕ, zero, suc, ◌+◌, ◌<◌, ◌≤◌, Ok, Err, length, take, set, sym, refl, ap, ◌∙◌, arith, length-set, length-take}
+use Rattle.std.proofs.Common.{◌≡◌, ℕ, zero, suc, ◌+◌, ◌<◌, ◌≤◌, Ok, Err, length, take, set, sym, ap, ◌∙◌, arith, length-set, length-take}
 use Rattle.std.proofs.lemmas.List.{take_more_set}
 use Rattle.ticket.specs.declared.Ticket.{Ticket}
 use Rattle.language.specs.Block.{Block, assign, output, repeat, ◌⨟◌}
@@ -19,10 +19,6 @@ ticket c v = record { channel = c; value = v }
 falls : (n : ℕ) → Ok tt ≡ due n → 0 < n
 falls zero e = cc
 falls (suc n) e = omega arith
-
-none_due : (n : ℕ) (e : Stalled) → Err e ≡ due n → n ≡ 0
-none_due zero e h = refl
-none_due (suc n) e h = cc
 
 -- j is to take a step, and j' is what that leaves
 module _ (j j' : Job) (job : j' ≡ spent j) where

@@ -1,5 +1,5 @@
-use Rattle.label_check.specs.Tables.{Filled}
-use Rattle.label_check.proofs.table.join_table.Given as goal
+use Rattle.label_check.specs.Joins.{Filled}
+use Rattle.label_check.proofs.joins.join_table.Given as goal
 
 abbrev pub invariant-loop-a : goal.invariant-loop-a
 invariant-loop-a g l = Filled (g.S.Scheme.levels l.scheme) l.joins l.a 0

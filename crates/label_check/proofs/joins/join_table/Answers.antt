@@ -1,8 +1,8 @@
 use Rattle.std.proofs.Common.{◌<◌, sym, arith}
 use Rattle.levels.specs.Lattices.{some_join, never_none}
 use Rattle.label_check.proofs.Filling.{filled_none, filled_put, filled_row}
-use Rattle.label_check.proofs.table.join_table.Goals as goal
-use Rattle.label_check.proofs.table.join_table.Goals.{in-Some, in_default}
+use Rattle.label_check.proofs.joins.join_table.Goals as goal
+use Rattle.label_check.proofs.joins.join_table.Goals.{in-Some, in_default}
 
 pub loop-b-preserved : goal.loop-b-preserved
 loop-b-preserved g c =
