@@ -29,20 +29,6 @@ impl Chain {
 impl Scheme for Chain {
     ghost levels = { λ s. chain s.count };
 
-    ghost sized = { λ s. (chain_lawful s.count s.sized.0 s.sized.1).sized };
-
-    ghost proper = { λ s. (chain_lawful s.count s.sized.0 s.sized.1).proper };
-
-    ghost reflexive = { λ s. (chain_lawful s.count s.sized.0 s.sized.1).reflexive };
-
-    ghost antisymmetric = { λ s. (chain_lawful s.count s.sized.0 s.sized.1).antisymmetric };
-
-    ghost transitive = { λ s. (chain_lawful s.count s.sized.0 s.sized.1).transitive };
-
-    ghost bottom = { λ s. (chain_lawful s.count s.sized.0 s.sized.1).bottom };
-
-    ghost joins = { λ s. (chain_lawful s.count s.sized.0 s.sized.1).joins };
-
     ghost lattice = { λ s. chain_lawful s.count s.sized.0 s.sized.1 };
 
     fn count(&self) -> u8 {

@@ -46,20 +46,6 @@ impl<P: Scheme, Q: Scheme> Pair<P, Q> {
 impl<P: Scheme, Q: Scheme> Scheme for Pair<P, Q> {
     ghost levels = { λ s. pair (P.Scheme.levels s.left) (Q.Scheme.levels s.right) };
 
-    ghost sized = { λ s. (pair_lawful (P.Scheme.lattice s.left) (Q.Scheme.lattice s.right)).sized };
-
-    ghost proper = { λ s. (pair_lawful (P.Scheme.lattice s.left) (Q.Scheme.lattice s.right)).proper };
-
-    ghost reflexive = { λ s. (pair_lawful (P.Scheme.lattice s.left) (Q.Scheme.lattice s.right)).reflexive };
-
-    ghost antisymmetric = { λ s. (pair_lawful (P.Scheme.lattice s.left) (Q.Scheme.lattice s.right)).antisymmetric };
-
-    ghost transitive = { λ s. (pair_lawful (P.Scheme.lattice s.left) (Q.Scheme.lattice s.right)).transitive };
-
-    ghost bottom = { λ s. (pair_lawful (P.Scheme.lattice s.left) (Q.Scheme.lattice s.right)).bottom };
-
-    ghost joins = { λ s. (pair_lawful (P.Scheme.lattice s.left) (Q.Scheme.lattice s.right)).joins };
-
     ghost lattice = { λ s. pair_lawful (P.Scheme.lattice s.left) (Q.Scheme.lattice s.right) };
 
     fn count(&self) -> u8 {
