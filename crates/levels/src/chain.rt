@@ -8,7 +8,7 @@ ghost use Rattle.levels.specs.Products.{chain_lawful};
 use super::Scheme;
 use fault::{Fault, Reason};
 
-#[derive(Clone, Copy)]
+#[derive(Clone, Copy, PartialEq, Eq, Debug)]
 pub struct Chain {
     count: u8,
     ghost sized: { (1 ≤ count) × (count ≤ 16) },

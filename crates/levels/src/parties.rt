@@ -8,7 +8,7 @@ ghost use Rattle.levels.specs.Subsets.{parties_lawful};
 use super::Scheme;
 use fault::{Fault, Reason};
 
-#[derive(Clone, Copy)]
+#[derive(Clone, Copy, PartialEq, Eq, Debug)]
 pub struct Parties {
     number: u8,
     ghost few: { number ≤ 4 },
