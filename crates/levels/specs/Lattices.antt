@@ -1,6 +1,7 @@
 -- What follows from the laws of a scheme. Assumes nothing.
 use Rattle.std.proofs.Common.{◌≡◌, ℕ, ◌<◌, Bool, true, false, cond, Some, None, sym, refl, ◌∙◌, arith}
 use Rattle.std.proofs.lemmas.Bool.{and_parts, ltb-true, lt-ltb}
+use Rattle.std.proofs.lemmas.Option.{cond_some}
 use Rattle.levels.specs.Scheme.{Levels, Below, Lattice, OrderDeterminesScheme, join_of}
 
 module _ {L : Levels} (laws : Lattice L) where
@@ -13,10 +14,6 @@ module _ {L : Levels} (laws : Lattice L) where
 -- what `join` answers
 pub join_some : (L : Levels) (a b : ℕ) → a < L.count → b < L.count → join_of L a b ≡ Some (L.join a b)
 join_some L a b ha hb = rw (lt-ltb a L.count ha, lt-ltb b L.count hb)
-
-pub cond_some : {X : Type 0} (t : Bool) (x y : X) → cond t (Some x) None ≡ Some y → (t ≡ true) × (x ≡ y)
-cond_some true x y e = (refl, cc)
-cond_some false x y e = cc
 
 pub cond_none : {X : Type 0} (t : Bool) (x : X) → cond t (Some x) None ≡ None → t ≡ false
 cond_none true x e = cc
