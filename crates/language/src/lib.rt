@@ -71,11 +71,13 @@ pub fn round(value: u32, unit: u32) -> u32
 }
 
 // A theorem: telling a run by blocks is iterating the step of commands.
+#[tactic(auto, using(crate::proofs::Blocks::run_is_iterated_step))]
 pub fn run_is_iterated_step()
     ensures { RunIsIteratedStep }
 {}
 
 // A theorem: no reaction stalls with a step and a ticket left, or takes more steps than it is allowed.
+#[tactic(auto, using(crate::proofs::Stalls::stalls_only_when_spent))]
 pub fn stalls_only_when_spent()
     ensures { StallsOnlyWhenSpent }
 {}

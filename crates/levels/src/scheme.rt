@@ -37,6 +37,7 @@ pub trait Scheme: Copy {
 }
 
 // A theorem: the count and the order of a scheme leave one choice for its lowest level and its joins.
+#[tactic(auto, using(crate::specs::Lattices::order_determines_scheme))]
 pub fn order_determines_scheme()
     ensures { OrderDeterminesScheme }
 {}
