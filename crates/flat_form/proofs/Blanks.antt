@@ -11,7 +11,7 @@ use Rattle.program.specs.Building.{blank_row, blank_term}
 use Rattle.flat_form.specs.Extents.{is_skip, is_blank, filled, extent, is_input, all_blank}
 
 never : {P : Type 0} → false ≡ true → P
-never e = let z : ◌≡◌ {A = ℕ} 0 1 = cc in absurd (omega arith)
+never e = cc
 
 -- the last row is blank, or not
 pub blank_last : (rows : List Row) (r : Row) → is_blank r ≡ true → extent (rows ++ r ∷ []) ≡ extent rows

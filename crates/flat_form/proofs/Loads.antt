@@ -38,7 +38,7 @@ pub record IsFlat (p : Tree) (rows : List Row) (terms : List Term) : Type 0 wher
   pub terms_are : terms ≡ flat_terms p
 
 all_is : (n : ℕ) (o : Option ℕ) → is_all n o ≡ true → o ≡ Some n
-all_is n None e = let z : ◌≡◌ {A = ℕ} 0 1 = cc in absurd (omega arith)
+all_is n None e = cc
 all_is n (Some m) e = ap (λ k. Some k) (eqb-true m n e)
 
 -- tables that pass the test are the flat form of the program that they stand for
@@ -56,7 +56,7 @@ flat_is_program p w =
     ap (is_all n) (flat_is_taken p (flat_terms p) n w (omega arith) (take_all n (flat_terms p) (omega arith))) ∙ eq-eqb n n refl
 
 with_says : (n : ℕ) (terms : List Term) (o : Option ℕ) (e : ℕ × ℕ) → with_blanks n terms o ≡ Some e → (o ≡ Some e.1) × (e.0 ≡ n) × (all_blank (drop e.1 terms) ≡ true)
-with_says n terms None e h = let z : ◌≡◌ {A = ℕ} 0 1 = cc in absurd (omega arith)
+with_says n terms None e h = cc
 with_says n terms (Some m) e h =
     split (all_blank (drop m terms)) (Some (n, m)) None (Some e) h
     (λ b g.
@@ -64,7 +64,7 @@ with_says n terms (Some m) e h =
     let a = ap (λ (x : ℕ × ℕ). x.0) q in
     let c = ap (λ (x : ℕ × ℕ). x.1) q in
     (ap (λ k. Some k) c, sym a, subst (λ (k : ℕ). all_blank (drop k terms) ≡ true) c b))
-    (λ _ g. let z : ◌≡◌ {A = ℕ} 0 1 = cc in absurd (omega arith))
+    (λ _ g. cc)
 
 -- the parts of tables that are taken
 pub record Parts (p : Tree) (rows : List Row) (terms : List Term) (n m : ℕ) : Type 0 where
@@ -92,7 +92,7 @@ extents_hold rows terms e h =
       terms_reach = le;
     } in
     (p, subst (λ (k : ℕ). Parts p rows terms k m) (sym s.1) parts))
-    (λ _ g. let z : ◌≡◌ {A = ℕ} 0 1 = cc in absurd (omega arith))
+    (λ _ g. cc)
 
 pub held_has_extents : (p : Tree) (rows : List Row) (terms : List Term) → Within p → Hold p rows terms → extents rows terms ≡ Some (length (flat_rows p), length (flat_terms p))
 held_has_extents p rows terms w h =

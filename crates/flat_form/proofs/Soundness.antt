@@ -24,7 +24,7 @@ use Rattle.flat_form.specs.Rebuilding.{fitted, after, again, same_partners, ends
 use Rattle.flat_form.proofs.Again.{fitted_says, take_on}
 
 no : {P : Type 0} → false ≡ true → P
-no e = let z : ◌≡◌ {A = ℕ} 0 1 = cc in absurd (omega arith)
+no e = cc
 
 fit_back : (t : Term) → fits_term t ≡ true → FitTerm t
 fit_back Input e = tt
@@ -62,10 +62,10 @@ row_back Close ts e = nil_back ts e
 
 after_some : (x : Result Tables Fault) (k : Tables → Option Tables) (t : Tables) → after x k ≡ Some t → (u : Tables) × (x ≡ Ok u) × (k u ≡ Some t)
 after_some (Ok u) k t e = (u, refl, e)
-after_some (Err f) k t e = let z : ◌≡◌ {A = ℕ} 0 1 = cc in absurd (omega arith)
+after_some (Err f) k t e = cc
 
 no_tables : {P : Type 0} (t : Tables) → None ≡ Some t → P
-no_tables t e = let z : ◌≡◌ {A = ℕ} 0 1 = cc in absurd (omega arith)
+no_tables t e = cc
 
 same_tables : (s t : Tables) → Some s ≡ Some t → s ≡ t
 same_tables s t e = cc
@@ -160,8 +160,8 @@ tail_is x y xs ys e = cc
 
 rows_are : (rs qs : List Row) → map plain rs ≡ map plain qs → same_partners rs qs ≡ true → rs ≡ qs
 rows_are [] [] e p = refl
-rows_are [] (q ∷ qs) e p = let z : ◌≡◌ {A = ℕ} 0 1 = cc in absurd (omega arith)
-rows_are (r ∷ rs) [] e p = let z : ◌≡◌ {A = ℕ} 0 1 = cc in absurd (omega arith)
+rows_are [] (q ∷ qs) e p = cc
+rows_are (r ∷ rs) [] e p = cc
 rows_are (r ∷ rs) (q ∷ qs) e p =
     let a = both_true (eqb r.partner q.partner) (same_partners rs qs) p in
     ap (λ x. x ∷ rs) (one_row r q (head_is (plain r) (plain q) (map plain rs) (map plain qs) e) (eqb-true _ _ a.0))
@@ -171,7 +171,7 @@ some_num : (a b : ℕ) → Some a ≡ Some b → a ≡ b
 some_num a b e = cc
 
 none_num : {P : Type 0} (b : ℕ) → None ≡ Some b → P
-none_num b e = let z : ◌≡◌ {A = ℕ} 0 1 = cc in absurd (omega arith)
+none_num b e = cc
 
 ends_back : (rows : List Row) (o : Option Tables) (m : ℕ) → ends_in rows o ≡ Some m → (t : Tables) × (o ≡ Some t) × (t.stack ≡ []) × (same_partners rows t.rows ≡ true) × (length t.terms ≡ m)
 ends_back rows None m e = none_num m e

@@ -23,7 +23,8 @@ arity_two (Constant n) = omega arith
 arity_two (Variable n) = omega arith
 arity_two (Operator o) = omega arith
 
-turn : (n k lacking : ℕ) (terms : List Term) (t : Term) (fs : List (List ℕ)) → 0 < lacking → length terms < 15 → term_in_head (head_of fs) ≡ Some t
+-- one more term
+pub turn : (n k lacking : ℕ) (terms : List Term) (t : Term) (fs : List (List ℕ)) → 0 < lacking → length terms < 15 → term_in_head (head_of fs) ≡ Some t
     → expression_from n k lacking terms fs ≡ expression_from n (k + 1) (lacking - 1 + arity_of t) (terms ++ t ∷ []) (tail_of fs)
 turn n k lacking terms t [] h lt e = cc
 turn n k lacking terms t (f ∷ fs) h lt e = grind (arith, nat_tests)
@@ -40,3 +41,7 @@ one_more {n} {k} {m} {lacking} {start} {left} {terms} t s h lt e =
       line = s.line;
       same = s.same ∙ turn n (k + length terms) lacking terms t left h lt e ∙ ap (λ i. expression_from n i (lacking - 1 + arity_of t) (terms ++ t ∷ []) (tail_of left)) (let z : k + length terms + 1 ≡ k + length (terms ++ t ∷ []) = omega arith in z);
     }
+
+pub done : (n k : ℕ) (terms : List Term) (fs : List (List ℕ)) → expression_from n k 0 terms fs ≡ Ok (terms, fs)
+done n k terms [] = refl
+done n k terms (f ∷ fs) = refl

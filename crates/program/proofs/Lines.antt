@@ -61,7 +61,7 @@ pair_eq : (x y : ℕ × List Term) → ◌≡◌ {A = Result (ℕ × List Term) 
 pair_eq x y e = cc
 
 no_letter : {P : Type 0} (n c : ℕ) (fs : List (List ℕ)) (l : Line) → ◌≡◌ {A = Result Line Fault} (Err (letter_at n)) (Ok l) → P
-no_letter n c fs l e = let z : ◌≡◌ {A = ℕ} 0 1 = cc in absurd (omega arith)
+no_letter n c fs l e = cc
 
 tested_back : (n : ℕ) (kind : Kind) (fs : List (List ℕ)) (l : Line) → tested n kind fs ≡ Ok l → (ts : List Term) × (fs ≡ map term_bytes ts) × Expression ts × ((kind, ts) ≡ l)
 tested_back n kind fs l e =

@@ -46,7 +46,7 @@ abbrev Closed : List Bool → List Line → List Frame → Tree → Type 0
 Closed ms ls fs p = (ls ≡ frame_lines fs p) × Matches ms fs × AllByRecursion FitHandler p
 
 never : {P : Type 0} → false ≡ true → P
-never e = let z : ◌≡◌ {A = ℕ} 0 1 = cc in absurd (omega arith)
+never e = cc
 
 -- a command, of which the lines are pre, in front of the innermost block
 module _ (g : Block → Block) (pre : List Line) (ms : List Bool) (lines : (x : Block) → block_lines (g x) ≡ pre ++ block_lines x) (fit : (x : Block) (d : ℕ) → d ≡ 8 - (length ms - 1) → FitBlock d x → FitBlock d (g x)) (pos : 0 < length ms) (p : Tree) where

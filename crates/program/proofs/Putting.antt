@@ -37,23 +37,19 @@ added_ok (Err f) rows stack h = cc
 goes_err : (x : Result Tables Fault) (f : Fault) (r : Result (Unit {0}) Fault) (held : Tables) → r ≡ Err f → x ≡ Err f → GoesOn x r held
 goes_err x f r held told e = subst (λ (y : Result Tables Fault). GoesOn y r held) (sym e) told
 
--- the line after those that are read, by its number as the code has it
-module _ (p : Progress) (rows : List Row) (terms : List Term) (line : List ℕ) (n : ℕ) (same : n ≡ p.nesting.count + 1) where
+module _ (p : Progress) (rows : List Row) (terms : List Term) (n : ℕ) (line : List ℕ) where
   abbrev Goes : Result (Unit {0}) Fault → Tables → Type 0
-  Goes = GoesOn (two_steps parse build (so_far p rows terms) (p.nesting.count + 1) line)
-
-  parsed : two_steps parse build (so_far p rows terms) (p.nesting.count + 1) line ≡ then (parse n line) (build (so_far p rows terms) n)
-  parsed = ap (λ i. two_steps parse build (so_far p rows terms) i line) (sym same)
+  Goes = GoesOn (two_steps parse build (so_far p rows terms) n line)
 
   pub unread : (f : Fault) (r : Result (Unit {0}) Fault) (held : Tables) → Err f ≡ held_line (parse n line) → r ≡ Err f → Goes r held
-  unread f r held e told = goes_err _ f r held told (parsed ∙ ap (λ x. then x (build (so_far p rows terms) n)) (read_err (parse n line) f e))
+  unread f r held e told = goes_err _ f r held told (ap (λ x. then x (build (so_far p rows terms) n)) (read_err (parse n line) f e))
 
   module _ (k : Kind) (v : ArrayVec Term) (count : ℕ) (read : Ok (k, v) ≡ held_line (parse n line)) (many : count ≡ length v.items) (le : p.used ≤ length terms) where
     abbrev row : Row
     row = record { kind = k; first = p.used; count = count; partner = 0 }
 
-    stepped : two_steps parse build (so_far p rows terms) (p.nesting.count + 1) line ≡ build (so_far p rows terms) n (k, v.items)
-    stepped = parsed ∙ ap (λ x. then x (build (so_far p rows terms) n)) (read_ok (parse n line) k v read)
+    stepped : two_steps parse build (so_far p rows terms) n line ≡ build (so_far p rows terms) n (k, v.items)
+    stepped = ap (λ x. then x (build (so_far p rows terms) n)) (read_ok (parse n line) k v read)
 
     adds : (r : Result (Unit {0}) Fault) (rows' : List Row) (after : Open) → Builds rows p.nesting n row r rows' after → Adds (build (so_far p rows terms) n (k, v.items)) r (take (p.nesting.count + 1) rows') after.stack
     adds r rows' after b = b (take p.used terms) v.items (length-take-le p.used terms le) (sym many)

@@ -59,7 +59,7 @@ pub first_is : (x y : Pair) → Some x ≡ Some y → x.0 ≡ y.0
 first_is x y e = let q : x ≡ y = cc in ap (λ (p : Pair). p.0) q
 
 pub none_is : {P : Type 0} (y : Pair) → None ≡ Some y → P
-none_is y e = let z : ◌≡◌ {A = ℕ} 0 1 = cc in absurd (omega arith)
+none_is y e = cc
 
 inside_same : (rows : List Row) (st : List ℕ) (p : Pair) → inside rows st ≡ Some p → Same rows p.0
 inside_same rows [] p e = none_is p e
@@ -105,11 +105,11 @@ pub record Kept (s : Tables) (done : List Line) : Type 0 where
   pub lines : lines_from s.rows s.terms ≡ done
 
 pub or_nest : (n : ℕ) (o : Option Pair) (p : Pair) → or_refused (nest_at n) o ≡ Ok p → o ≡ Some p
-or_nest n None p e = let z : ◌≡◌ {A = ℕ} 0 1 = cc in absurd (omega arith)
+or_nest n None p e = cc
 or_nest n (Some q) p e = cc
 
 err_tables : {P : Type 0} (f : Fault) (t : Tables) → ◌≡◌ {A = Result Tables Fault} (Err f) (Ok t) → P
-err_tables f t e = let z : ◌≡◌ {A = ℕ} 0 1 = cc in absurd (omega arith)
+err_tables f t e = cc
 
 -- what a line that was put says of the tests
 pub build_ok : (s : Tables) (n : ℕ) (l : Line) (t : Tables) → build s n l ≡ Ok t

@@ -9,7 +9,7 @@ use crate::rows::Kind;
 use crate::terms;
 use crate::terms::Expression;
 use fault::{Fault, Reason};
-use text::{Fields, placed};
+use text::{Fields, Line};
 
 // An expression, and then no field.
 fn whole(fields: &mut Fields<'_>, place: u8) -> Result<Expression, Fault>
@@ -38,11 +38,11 @@ fn bare(fields: &Fields<'_>, kind: Kind) -> Result<(Kind, Expression), Fault>
     Ok((kind, Expression::new()))
 }
 
-// One line, whose number is given: its kind, and its expression.
-pub fn read_line(line: &[u8], number: u16) -> Result<(Kind, Expression), Fault>
-    ensures { result ≡ held_line (line_in number (pieces 44 line.now)) }
+// One line: its kind, and its expression.
+pub fn read_line(line: Line<'_>) -> Result<(Kind, Expression), Fault>
+    ensures { result ≡ held_line (line_in line.entry.number (pieces 44 line.entry.bytes.now)) }
 {
-    let mut fields = Fields::new(line, number);
+    let mut fields = Fields::new(line);
     match fields.letter()? {
         'H' => {
             let channel = fields.byte(2, 0, 15)?;
@@ -62,6 +62,6 @@ pub fn read_line(line: &[u8], number: u16) -> Result<(Kind, Expression), Fault>
         'W' => Ok((Kind::While, whole(&mut fields, 2)?)),
         'E' => bare(&fields, Kind::Else),
         'X' => bare(&fields, Kind::Close),
-        _ => Err(placed(Reason::Letter, number, 1)),
+        _ => Err(line.fault(Reason::Letter, 1)),
     }
 }

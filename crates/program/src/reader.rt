@@ -12,7 +12,7 @@ use crate::line::read_line;
 use crate::nest::Nesting;
 use crate::rows::{Row, Term};
 use fault::{Fault, Reason};
-use text::{TEXT_LIMIT, next_line, placed};
+use text::{Line, Lines, placed};
 
 // How far lent rows and terms are filled.
 #[derive(Drop)]
@@ -24,23 +24,23 @@ struct Progress {
 
 impl Progress {
     // One more line, into the next places.
-    fn put(&mut self, line: &[u8], rows: &mut [Row], terms: &mut [Term]) -> Result<(), Fault>
+    fn put(&mut self, line: Line<'_>, rows: &mut [Row], terms: &mut [Term]) -> Result<(), Fault>
         requires few { (self.old.nesting.count ≤ 128) × (self.old.used ≤ 512) }
         requires room { (128 ≤ length rows.old) × (512 ≤ length terms.old) }
-        ensures value { GoesOn (two_steps parse build (so_far self.old rows.old terms.old) (self.old.nesting.count + 1) line.now) result (so_far self.new rows.new terms.new) }
+        ensures value { GoesOn (two_steps parse build (so_far self.old rows.old terms.old) line.entry.number line.entry.bytes.now) result (so_far self.new rows.new terms.new) }
+        ensures count { OnOk result (self.new.nesting.count ≡ self.old.nesting.count + 1) }
         ensures rows { drop (self.old.nesting.count + 1) rows.new ≡ drop (self.old.nesting.count + 1) rows.old }
         ensures terms { drop self.new.used terms.new ≡ drop self.new.used terms.old }
         ensures room { OnOk result ((self.old.nesting.count < 128) × (self.old.used ≤ self.new.used) × (self.new.used ≤ 512)) }
     {
-        let number = self.nesting.count() as u16 + 1;
-        let (kind, expression) = read_line(line, number)?;
+        let (kind, expression) = read_line(line)?;
         let row = Row {
             kind,
             first: self.used as u16,
             count: expression.len() as u8,
             partner: 0,
         };
-        self.nesting.add(rows, row, number)?;
+        self.nesting.add(rows, row, line.number)?;
         let end = self.used + expression.len();
         terms[self.used..end].copy_from_slice(&expression);
         self.used = end;
@@ -54,25 +54,18 @@ fn fill_tables(text: &[u8], rows: &mut [Row], terms: &mut [Term]) -> Result<usiz
     requires blank { (rows.old ≡ replicate (length rows.old) blank_row) × (terms.old ≡ replicate (length terms.old) blank_term) }
     ensures { Filled (reading text.now) result rows.new terms.new }
 {
-    if text.len() > TEXT_LIMIT {
-        return Err(Fault::unplaced(Reason::Overlong));
-    }
-    let mut left = text;
     let mut progress = Progress {
         nesting: Nesting::new(),
         used: 0,
     };
-    loop {
-        let number = progress.nesting.count() as u16 + 1;
-        let Some((line, rest)) = next_line(left, number)? else {
-            if progress.nesting.is_open() {
-                return Err(placed(Reason::Nest, number, 0));
-            }
-            return Ok(progress.nesting.count());
-        };
-        progress.put(line, rows, terms)?;
-        left = rest;
+    for line in Lines::new(text)? {
+        progress.put(line?, rows, terms)?;
     }
+    let count = progress.nesting.count();
+    if progress.nesting.is_open() {
+        return Err(placed(Reason::Nest, count as u16 + 1, 0));
+    }
+    Ok(count)
 }
 
 // The program that a text is the writing of, as its flat form in at least 128 lent rows and 512 lent terms; the answer counts the rows.

@@ -2,7 +2,7 @@
 ghost use Rattle.std.specs.Prelude.{◌≡◌, ◌≤◌, []};
 ghost use Rattle.text.specs.Fields.{bytes_of, Formed};
 ghost use Rattle.text.specs.Reading.{left_of, line_of, head_of, Taken};
-ghost use Rattle.program.specs.Terms.{operator_in, term_in, term_in_head, arity_of, expression_from, ExpressionRead};
+ghost use Rattle.program.specs.Terms.{term_in, term_in_head, arity_of, expression_from, ExpressionRead};
 
 use crate::rows::Term;
 use arrayvec::ArrayVec;
@@ -15,20 +15,6 @@ pub const EXPRESSION_LIMIT: usize = 15;
 
 pub type Expression = ArrayVec<Term, EXPRESSION_LIMIT>;
 
-fn operator(c: char) -> Option<Operator>
-    ensures { result ≡ operator_in c }
-{
-    match c {
-        '+' => Some(Operator::Plus),
-        '-' => Some(Operator::Minus),
-        '*' => Some(Operator::Times),
-        '=' => Some(Operator::Equal),
-        '<' => Some(Operator::Less),
-        'r' => Some(Operator::Round),
-        _ => None,
-    }
-}
-
 fn term(field: Field<'_>) -> Option<Term>
     requires { Formed field }
     ensures { result ≡ term_in (bytes_of field.entry) }
@@ -37,7 +23,7 @@ fn term(field: Field<'_>) -> Option<Term>
         Field::Term('x', []) => Some(Term::Input),
         Field::Term('k', digits) => number(digits, 0, u32::MAX).map(Term::Constant),
         Field::Term('v', digits) => number(digits, 0, 15).map(|n| Term::Variable(n as u8)),
-        Field::Operator(c) => operator(c).map(Term::Operator),
+        Field::Operator(c) => Operator::try_from(c).ok().map(Term::Operator),
         _ => None,
     }
 }
