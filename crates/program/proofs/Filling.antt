@@ -77,7 +77,3 @@ module _ {text : List ℕ} {left : Lines} {p : Progress} {rows : List Row} {term
           rest_terms = less blank_term p.used p'.used terms terms' grows long_terms s.rest_terms kept_terms;
           same = by_line (Ok (so_far p' rows' terms')) (went _ _ goes);
         }
-
-pub refused_is : (x : Result Tables Fault) (f : Fault) (rows : List Row) (terms : List Term) → Filled x (Err f) rows terms → x ≡ Err f
-refused_is (Ok t) f rows terms h = cc
-refused_is (Err g) f rows terms h = cc
