@@ -1,6 +1,6 @@
 -- Tables are taken exactly if they hold the flat form of a program. Assumes nothing.
-use Rattle.std.proofs.Common.{◌≡◌, ℕ, ◌+◌, ◌-◌, ◌≤◌, true, cond, leb, List, [], ◌∷◌, length, take, drop, replicate, Some, None, Option, sym, refl, ap, ◌∙◌, subst, arith, length-append, length-drop}
-use Rattle.std.proofs.lemmas.List.{length-take-le, take_at, drop_at, length-map, take_all}
+use Rattle.std.proofs.Common.{◌≡◌, ℕ, ◌+◌, ◌-◌, ◌≤◌, true, cond, leb, List, [], ◌∷◌, ◌++◌, length, take, drop, replicate, Some, None, Option, sym, refl, ap, ◌∙◌, subst, arith, length-append, length-drop}
+use Rattle.std.proofs.lemmas.List.{length-take-le, take-append-drop, take_at, drop_at, length-map, take_all}
 use Rattle.std.proofs.lemmas.Bool.{le-leb, eq-eqb, eqb-true}
 use Rattle.language.specs.Block.{Tree}
 use Rattle.program.specs.declared.rows.Kind.TheVariants as kind
@@ -12,7 +12,6 @@ use Rattle.program.specs.Reading.{padded}
 use Rattle.program.specs.Trees.{tree_of}
 use Rattle.program.specs.Writing.{row, tree_rows, block_rows, width, flat_rows, flat_terms, Within}
 use Rattle.program.proofs.Cases.{split}
-use Rattle.program.proofs.Filling.{padded_is}
 use Rattle.program.proofs.Programs.{flat_form_tells_the_lines, flat_form_tells_the_program}
 use Rattle.flat_form.specs.Extents.{extent, all_blank, with_blanks, extents, is_all, is_program}
 use Rattle.flat_form.specs.Rebuilding.{used_by}
@@ -65,6 +64,11 @@ with_says n terms (Some m) e h =
     let c = ap (λ (x : ℕ × ℕ). x.1) q in
     (ap (λ k. Some k) c, sym a, subst (λ (k : ℕ). all_blank (drop k terms) ≡ true) c b))
     (λ _ g. cc)
+
+-- the first n, and blanks behind them
+padded_is : {X : Type 0} (b : X) (n : ℕ) (xs : List X) → n ≤ length xs → drop n xs ≡ replicate (length xs - n) b → xs ≡ padded b (length xs) (take n xs)
+padded_is b n xs le e =
+    sym (take-append-drop n xs) ∙ ap (λ d. take n xs ++ d) e ∙ ap (λ m. take n xs ++ replicate (length xs - m) b) (sym (length-take-le n xs le))
 
 -- the parts of tables that are taken
 pub record Parts (p : Tree) (rows : List Row) (terms : List Term) (n m : ℕ) : Type 0 where

@@ -9,3 +9,8 @@ split false x y v e f g = g refl e
 pub both_true : (a b : Bool) → cond a b false ≡ true → (a ≡ true) × (b ≡ true)
 both_true true b e = (refl, e)
 both_true false b e = cc
+
+-- a test that decides nothing
+pub neither : (b : Bool) → cond b false false ≡ false
+neither true = refl
+neither false = refl

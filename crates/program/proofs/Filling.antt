@@ -50,10 +50,6 @@ less b m n xs ys le long e same =
     ∙ drop-replicate (n - m) (length xs - m) b
     ∙ ap (λ k. replicate k b) (let z : length xs - m - (n - m) ≡ length ys - n = omega arith in z)
 
-pub padded_is : {X : Type 0} (b : X) (n : ℕ) (xs : List X) → n ≤ length xs → drop n xs ≡ replicate (length xs - n) b → xs ≡ padded b (length xs) (take n xs)
-padded_is b n xs le e =
-    sym (take-append-drop n xs) ∙ ap (λ d. take n xs ++ d) e ∙ ap (λ m. take n xs ++ replicate (length xs - m) b) (sym (length-take-le n xs le))
-
 module _ {text : List ℕ} {left : Lines} {p : Progress} {rows : List Row} {terms : List Term} (s : ReadSoFar text left p rows terms) where
   module _ {l : Line} {next : Lines} (g : Gives left l next) where
     by_line : (r : Result Tables Fault) → two_steps parse build (so_far p rows terms) l.number l.bytes.now ≡ r → reading text ≡ to_end (then r (λ t. read_on (two_steps parse build) t next))
