@@ -10,19 +10,16 @@ use Rattle.program.specs.declared.rows.Term.TheVariants.{Input, Constant, Variab
 use Rattle.program.specs.Building.{blank_row, blank_term}
 use Rattle.flat_form.specs.Extents.{is_skip, is_blank, filled, extent, is_input, all_blank}
 
-never : {P : Type 0} → false ≡ true → P
-never e = cc
-
 -- what stands behind the extent is blank
 is_skip_says : (k : Kind) → is_skip k ≡ true → k ≡ Skip
 is_skip_says Skip e = refl
-is_skip_says (Handler c) e = never e
-is_skip_says (Assign v) e = never e
-is_skip_says (Output c) e = never e
-is_skip_says If e = never e
-is_skip_says While e = never e
-is_skip_says Else e = never e
-is_skip_says Close e = never e
+is_skip_says (Handler c) e = cc
+is_skip_says (Assign v) e = cc
+is_skip_says (Output c) e = cc
+is_skip_says If e = cc
+is_skip_says While e = cc
+is_skip_says Else e = cc
+is_skip_says Close e = cc
 
 blank_is : (r : Row) → is_blank r ≡ true → r ≡ blank_row
 blank_is r e =
@@ -86,9 +83,9 @@ extent_before (r ∷ rows) rs some h =
 -- terms
 input_is : (t : Term) → is_input t ≡ true → t ≡ Input
 input_is Input e = refl
-input_is (Constant n) e = never e
-input_is (Variable v) e = never e
-input_is (Operator o) e = never e
+input_is (Constant n) e = cc
+input_is (Variable v) e = cc
+input_is (Operator o) e = cc
 
 pub all_blank_is : (ts : List Term) → all_blank ts ≡ true → ts ≡ replicate (length ts) blank_term
 all_blank_is [] e = refl

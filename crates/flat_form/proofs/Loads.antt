@@ -154,4 +154,4 @@ module _ (rows : List Row) (terms : List Term) (n m : ℕ) (e : extents rows ter
       (flat_parts.within, parts.hold, flat_parts.rows_are, flat_parts.terms_are)
 
 pub none_is_held : (rows : List Row) (terms : List Term) → extents rows terms ≡ None → (p : Tree) → Within p → Hold p rows terms → ⊥
-none_is_held rows terms e p w h = let q = held_has_extents p rows terms w h in let z : ◌≡◌ {A = ℕ} 0 1 = cc in omega arith
+none_is_held rows terms e p w h = let q = held_has_extents p rows terms w h in cc

@@ -35,7 +35,7 @@ impl Nesting {
         }
     }
 
-    pub fn count(&self) -> usize
+    pub(crate) fn count(&self) -> usize
         ensures { result ≡ self.now.count }
     {
         self.count
@@ -50,7 +50,7 @@ impl Nesting {
 
     // One more row, of a kind, behind these; none where it is misplaced.
     #[tactic(auto, using(crate::proofs::Stacks::kept, crate::proofs::Stacks::opened, crate::proofs::Stacks::turned))]
-    pub fn nest(&mut self, rows: &mut [Row], kind: Kind) -> Option<()>
+    pub(crate) fn nest(&mut self, rows: &mut [Row], kind: Kind) -> Option<()>
         requires few { self.old.count ≤ 128 }
         requires all { length rows.old ≡ self.old.count }
         ensures value { Nests (nested rows.old self.old.stack self.old.count kind) result rows.new self.new.stack }
@@ -59,11 +59,9 @@ impl Nesting {
         let j = self.count as u8;
         self.count += 1;
         match kind {
-            Kind::Skip | Kind::Assign(_) | Kind::Output(_) if !self.open.is_empty() => {}
-            Kind::Handler(_) if self.open.is_empty() => self.open.push(j),
-            Kind::If | Kind::While if !self.open.is_empty() && !self.open.is_full() => {
-                self.open.push(j)
-            }
+            Kind::Skip | Kind::Assign(_) | Kind::Output(_) if self.is_open() => {}
+            Kind::Handler(_) if !self.is_open() => self.open.push(j),
+            Kind::If | Kind::While if self.is_open() && !self.open.is_full() => self.open.push(j),
             Kind::Else => {
                 let top = self.open.pop()? as usize;
                 if rows[top].kind != Kind::If {
