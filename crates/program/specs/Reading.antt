@@ -59,11 +59,6 @@ rows_after t rows terms = cond (enough rows terms) (rows_left (length rows) (rea
 abbrev pub terms_after : List ℕ → List Row → List Term → List Term
 terms_after t rows terms = cond (enough rows terms) (terms_left (length terms) (reading t)) terms
 
--- the answer r, with the rows, terms and open rows, that one more line leaves; a refusal leaves any
-abbrev pub GoesOn : Result Tables Fault → Result ℕ Fault → List Row → List Term → List ℕ → Type 0
-GoesOn (Ok t) r rows terms stack = (r ≡ Ok (length t.terms)) × (rows ≡ t.rows) × (take (length t.terms) terms ≡ t.terms) × (stack ≡ t.stack)
-GoesOn (Err f) r rows terms stack = r ≡ Err f
-
 -- the answer r and the lent tables that what was read leaves; a refusal leaves any
 abbrev pub Filled : Result Tables Fault → Result ℕ Fault → List Row → List Term → Type 0
 Filled (Ok t) r rows terms = (r ≡ Ok (length t.rows)) × (rows ≡ padded blank_row (length rows) t.rows) × (terms ≡ padded blank_term (length terms) t.terms)
