@@ -1,11 +1,7 @@
 // What a program does with a ticket: its handler's block is run.
-ghost use Rattle.std.specs.Prelude.{◌≡◌};
-ghost use Rattle.program.specs.Building.{is_handler_of};
-
 use crate::job::{Job, Stalled};
 use crate::tables::Tables;
 use machine::{Reaction, Slip, Words};
-use program::{Kind, Row};
 use ticket::Ticket;
 
 impl Tables<'_> {
@@ -20,7 +16,7 @@ impl Tables<'_> {
     fn handler(&self, channel: u8) -> Option<usize>
         ensures { Begins self.now.rows.now channel result }
     {
-        self.rows.iter().position(|row| is_handler(*row, channel))
+        self.rows.iter().position(|row| row.kind.is_handler_of(channel))
     }
 
     // Runs the block of a channel's handler, if it has one.
@@ -58,14 +54,5 @@ impl Tables<'_> {
             steps: allowance - job.left,
             stalled: ended.is_err(),
         }
-    }
-}
-
-fn is_handler(row: Row, channel: u8) -> bool
-    ensures { result ≡ is_handler_of channel row.kind }
-{
-    match row.kind {
-        Kind::Handler(own) => channel == own,
-        _ => false,
     }
 }
