@@ -16,7 +16,9 @@ impl Tables<'_> {
     fn handler(&self, channel: u8) -> Option<usize>
         ensures { Begins self.now.rows.now channel result }
     {
-        self.rows.iter().position(|row| row.kind.is_handler_of(channel))
+        self.rows
+            .iter()
+            .position(|row| row.kind.is_handler_of(channel))
     }
 
     // Runs the block of a channel's handler, if it has one.

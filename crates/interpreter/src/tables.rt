@@ -27,11 +27,8 @@ impl Tables<'_> {
         let row = self.rows[at];
         let end = row.partner as usize;
         match row.kind {
-            Kind::While => end + 1,
-            Kind::If => match self.rows[end].kind {
-                Kind::Else => self.rows[end].partner as usize + 1,
-                _ => end + 1,
-            },
+            Kind::If if self.rows[end].kind == Kind::Else => self.rows[end].partner as usize + 1,
+            Kind::If | Kind::While => end + 1,
             _ => at + 1,
         }
     }
@@ -45,15 +42,11 @@ impl Tables<'_> {
     {
         // By place: the row behind a row may be blocks away.
         let mut at = from;
-        loop {
-            match self.rows[at].kind {
-                Kind::Else | Kind::Close => return Ok(()),
-                _ => {
-                    self.row(at, job)?;
-                    at = self.after(at);
-                }
-            }
+        while !matches!(self.rows[at].kind, Kind::Else | Kind::Close) {
+            self.row(at, job)?;
+            at = self.after(at);
         }
+        Ok(())
     }
 
     // Runs a row, with the blocks that it opens.
@@ -70,13 +63,13 @@ impl Tables<'_> {
             Kind::Output(channel) => job.send(channel, self.terms, row),
             Kind::If => {
                 job.spend()?;
-                if job.evaluate(self.terms, row) != 0 {
-                    return self.block(at + 1, job);
-                }
                 let end = row.partner as usize;
-                match self.rows[end].kind {
-                    Kind::Else => self.block(end + 1, job),
-                    _ => Ok(()),
+                if job.evaluate(self.terms, row) != 0 {
+                    self.block(at + 1, job)
+                } else if self.rows[end].kind == Kind::Else {
+                    self.block(end + 1, job)
+                } else {
+                    Ok(())
                 }
             }
             Kind::While => self.turns(at, job),

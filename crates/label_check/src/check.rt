@@ -51,10 +51,10 @@ impl Check<'_> {
         // By place: the row behind a row may be a block away.
         let mut at = from;
         while at < self.program.rows.len() {
-            match self.program.rows[at].kind {
-                Kind::Close => return Ok(at + 1),
-                _ => at = self.row(at, pc)?,
+            if self.program.rows[at].kind == Kind::Close {
+                return Ok(at + 1);
             }
+            at = self.row(at, pc)?;
         }
         Ok(at)
     }
