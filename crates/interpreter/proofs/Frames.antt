@@ -9,7 +9,7 @@ use Rattle.program.specs.declared.rows.Kind.TheVariants as kind
 use Rattle.program.specs.declared.rows.Row.{Row}
 use Rattle.program.specs.declared.rows.Term.{Term}
 use Rattle.program.specs.Building.{blank_row, lines_from}
-use Rattle.program.specs.Trees.{Frame, whole, parted, prefixed, halved, branched, repeated, around, framed, frames, here}
+use Rattle.program.specs.Trees.{Frame, whole, parted, prefixed, branched, repeated, around, framed, frames, here}
 use Rattle.interpreter.specs.Places.{expression_at, frames_at, second_of, is_parted, command, past, next, next_at, block_at, row_at}
 use Rattle.interpreter.specs.Sound.{ClosesAlone, Parts, SoundRow, Sound}
 
@@ -18,26 +18,20 @@ prefixed_here f [] h = absurd (omega arith)
 prefixed_here f (whole b ∷ fs) h = (omega arith, refl)
 prefixed_here f (parted a b ∷ fs) h = (omega arith, refl)
 
--- behind a row that opens a block stand that block and the one around it
+-- behind a row that opens a block stands the block around it too
 record Opens (fs gs : List Frame) (c : Block → Block) : Type 0 where
-  pub body : 0 < length fs
   pub rest : 0 < length (around fs)
   pub is : here gs ≡ c (here (around fs))
 
 branched_here : (e : Expr) (fs : List Frame) → 0 < length (branched e fs) → Opens fs (branched e fs) (branch (is_parted fs) e (here fs) (second_of fs))
 branched_here e [] h = absurd (omega arith)
-branched_here e (whole b ∷ fs) h = let a = prefixed_here (branch (is_parted (whole b ∷ fs)) e b done) fs h in record { body = omega arith; rest = a.0; is = a.1 }
-branched_here e (parted x y ∷ fs) h = let a = prefixed_here (branch (is_parted (parted x y ∷ fs)) e x y) fs h in record { body = omega arith; rest = a.0; is = a.1 }
+branched_here e (whole b ∷ fs) h = let a = prefixed_here (branch (is_parted (whole b ∷ fs)) e b done) fs h in record { rest = a.0; is = a.1 }
+branched_here e (parted x y ∷ fs) h = let a = prefixed_here (branch (is_parted (parted x y ∷ fs)) e x y) fs h in record { rest = a.0; is = a.1 }
 
 repeated_here : (e : Expr) (fs : List Frame) → 0 < length (repeated e fs) → Opens fs (repeated e fs) (repeat e (here fs))
 repeated_here e [] h = absurd (omega arith)
-repeated_here e (whole b ∷ fs) h = let a = prefixed_here (repeat e b) fs h in record { body = omega arith; rest = a.0; is = a.1 }
+repeated_here e (whole b ∷ fs) h = let a = prefixed_here (repeat e b) fs h in record { rest = a.0; is = a.1 }
 repeated_here e (parted x y ∷ fs) h = absurd (omega arith)
-
-halved_here : (fs : List Frame) → here (halved fs) ≡ done
-halved_here [] = refl
-halved_here (whole b ∷ fs) = refl
-halved_here (parted a b ∷ fs) = refl
 
 no_handler : (fs : List Frame) → length fs ≡ 1 → 0 < length (around fs) → ⊥
 no_handler [] e h = omega arith
@@ -64,14 +58,6 @@ module _ (rows : List Row) (terms : List Term) where
   -- the frames at a row are those behind it with the row put before them
   pub at_row : (i : ℕ) → i < length rows → frames_at rows terms i ≡ framed (get_or rows i blank_row).kind (expression_at terms (get_or rows i blank_row)) (frames_at rows terms (i + 1))
   at_row i h = at_drop_more (λ rs. frames (lines_from rs terms)) rows i blank_row h
-
-  at_kind : (i : ℕ) (c : Kind) → i < length rows → (get_or rows i blank_row).kind ≡ c → frames_at rows terms i ≡ framed c (expression_at terms (get_or rows i blank_row)) (frames_at rows terms (i + 1))
-  at_kind i c h e = at_row i h ∙ ap (λ u. framed u (expression_at terms (get_or rows i blank_row)) (frames_at rows terms (i + 1))) e
-
-  -- an Else or a Close ends the block that it stands in
-  pub stops : (i : ℕ) → i < length rows → ((get_or rows i blank_row).kind ≡ kind.Else) ⊎ ((get_or rows i blank_row).kind ≡ kind.Close) → here (frames_at rows terms i) ≡ done
-  stops i h (inl e) = ap here (at_kind i kind.Else h e) ∙ halved_here (frames_at rows terms (i + 1))
-  stops i h (inr e) = ap here (at_kind i kind.Close h e)
 
   -- the row behind a branch, and where it goes on
   goes_past : (i p : ℕ) → ClosesAlone rows terms i p ⊎ Parts rows terms i p (get_or rows p blank_row).partner → frames_at rows terms (past (get_or rows p blank_row).kind p (get_or rows p blank_row).partner) ≡ around (frames_at rows terms (i + 1))

@@ -16,39 +16,39 @@ use Rattle.program.specs.Writing.{InRange}
 use Rattle.interpreter.specs.Sound.{Expressed, ClosesAlone, Parts, SoundRow, Sound}
 
 operator_set : IsSet Operator
-operator_set = Prim.hlevel (props, ⊎_set)
+operator_set = hlevel (props, ⊎_set)
 
 kind_set : IsSet Kind
-kind_set = Prim.hlevel (props, ⊎_set)
+kind_set = hlevel (props, ⊎_set)
 
 expr_set : IsSet Expr
-expr_set = Prim.hlevel (props, operator_set, Expr-set)
+expr_set = hlevel (props, operator_set, Expr-set)
 
 block_set : IsSet Block
-block_set = Prim.hlevel (props, expr_set, Block-set)
+block_set = hlevel (props, expr_set, Block-set)
 
 frame_set : IsSet Frame
-frame_set = Prim.hlevel (props, block_set, Frame-set)
+frame_set = hlevel (props, block_set, Frame-set)
 
 in_range_prop : (e : Expr) → IsProp (InRange e)
-in_range_prop input = Prim.hlevel
-in_range_prop (constant n) = Prim.hlevel props
-in_range_prop (variable v) = Prim.hlevel props
+in_range_prop input = hlevel
+in_range_prop (constant n) = hlevel props
+in_range_prop (variable v) = hlevel props
 in_range_prop (binary o l r) = ×_prop (in_range_prop l) (in_range_prop r)
 
 expressed_prop : (terms : List Term) (r : Row) → IsProp (Expressed terms r)
-expressed_prop terms r = Prim.hlevel (props, in_range_prop, expr_set)
+expressed_prop terms r = hlevel (props, in_range_prop, expr_set)
 
 module _ (rows : List Row) (terms : List Term) (i p q : ℕ) where
   alone_prop : IsProp (ClosesAlone rows terms i p)
-  alone_prop = Prim.hlevel (props, kind_set, block_set, frame_set)
+  alone_prop = hlevel (props, kind_set, block_set, frame_set)
 
   parts_prop : IsProp (Parts rows terms i p q)
-  parts_prop = Prim.hlevel (props, kind_set, block_set, frame_set)
+  parts_prop = hlevel (props, kind_set, block_set, frame_set)
 
   -- no row is a Close and an Else
   not_both : ClosesAlone rows terms i p → Parts rows terms i p q → ⊥
-  not_both a b = let e : kind.Else ≡ kind.Close = sym b.is_else ∙ a.closes.is_close in Prim.cc
+  not_both a b = let e : kind.Else ≡ kind.Close = sym b.is_else ∙ a.closes.is_close in cc
 
   ends_prop : IsProp (ClosesAlone rows terms i p ⊎ Parts rows terms i p q)
   ends_prop (inl a) (inl b) = ap inl (alone_prop a b)
@@ -57,14 +57,14 @@ module _ (rows : List Row) (terms : List Term) (i p q : ℕ) where
   ends_prop (inr a) (inr b) = ap inr (parts_prop a b)
 
 row_prop : (rows : List Row) (terms : List Term) (i : ℕ) (r : Row) (c : Kind) → IsProp (SoundRow rows terms i r c)
-row_prop rows terms i r kind.Skip = Prim.hlevel
-row_prop rows terms i r (kind.Handler c) = Prim.hlevel (props, kind_set, frame_set)
-row_prop rows terms i r (kind.Assign v) = Prim.hlevel (props, expressed_prop)
-row_prop rows terms i r (kind.Output c) = Prim.hlevel (props, expressed_prop)
-row_prop rows terms i r kind.If = Prim.hlevel (expressed_prop, ends_prop)
-row_prop rows terms i r kind.While = Prim.hlevel (props, expressed_prop, kind_set, frame_set)
-row_prop rows terms i r kind.Else = Prim.hlevel
-row_prop rows terms i r kind.Close = Prim.hlevel
+row_prop rows terms i r kind.Skip = hlevel
+row_prop rows terms i r (kind.Handler c) = hlevel (props, kind_set, frame_set)
+row_prop rows terms i r (kind.Assign v) = hlevel (props, expressed_prop)
+row_prop rows terms i r (kind.Output c) = hlevel (props, expressed_prop)
+row_prop rows terms i r kind.If = hlevel (expressed_prop, ends_prop)
+row_prop rows terms i r kind.While = hlevel (props, expressed_prop, kind_set, frame_set)
+row_prop rows terms i r kind.Else = hlevel
+row_prop rows terms i r kind.Close = hlevel
 
 pub sound_prop : (rows : List Row) (terms : List Term) → IsProp (Sound rows terms)
-sound_prop rows terms = Prim.hlevel row_prop
+sound_prop rows terms = hlevel row_prop
