@@ -43,11 +43,10 @@ parted m zero (b ∷ bs) lt e = ap (λ x. x ∷ bs) e
 parted m (suc n) (b ∷ bs) lt e = ap (λ l. b ∷ l) (parted m n bs (omega arith) e)
 
 -- the cut at the first mark, which stands at the place n; or there is none
-pub cut_some : (m n : ℕ) (bs : List ℕ) → n < length bs → ((k : ℕ) → k < n → get_or bs k 0 ≡ m → ⊥) → get_or bs n 0 ≡ m → pieces m bs ≡ take (n - 0) bs ∷ pieces m (take (length bs - (n + 1)) (drop (n + 1) bs))
+pub cut_some : (m n : ℕ) (bs : List ℕ) → n < length bs → ((k : ℕ) → k < n → get_or bs k 0 ≡ m → ⊥) → get_or bs n 0 ≡ m → pieces m bs ≡ take n bs ∷ pieces m (take (length bs - (n + 1)) (drop (n + 1) bs))
 cut_some m n bs lt none e =
-    let z : n - 0 ≡ n = omega arith in
-    let q : pieces m bs ≡ take n bs ∷ pieces m (drop (n + 1) bs) = rw add-one (ap (pieces m) (parted m n bs lt e) ∙ pieces_mark m (take n bs) (drop (suc n) bs) (free_below m n bs none)) in
-    q ∙ ap (λ k. take k bs ∷ pieces m (drop (n + 1) bs)) (sym z) ∙ ap (λ r. take (n - 0) bs ∷ pieces m r) (sym (take_rest bs (n + 1)))
+    rw add-one (ap (pieces m) (parted m n bs lt e) ∙ pieces_mark m (take n bs) (drop (suc n) bs) (free_below m n bs none))
+    ∙ ap (λ r. take n bs ∷ pieces m r) (sym (take_rest bs (n + 1)))
 
 pub cut_none : (m n : ℕ) (bs : List ℕ) → length bs ≤ n → ((k : ℕ) → k < n → get_or bs k 0 ≡ m → ⊥) → pieces m bs ≡ bs ∷ []
 cut_none m n bs le none = pieces_free m bs (subst (λ (x : List ℕ). Free m x) (take_all n bs le) (free_below m n bs none))

@@ -2,6 +2,7 @@ pub mod Building
 pub mod Classes
 pub mod Fields
 pub mod Lines
+pub mod Numbered
 pub mod Numbers
 pub mod Pieces
 pub mod Places

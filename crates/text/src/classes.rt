@@ -5,7 +5,7 @@ ghost use Rattle.text.specs.Classes.{class_of, is_digit, is_printable};
 use Class::{Digit, Letter, Operand, Operator, Other, Outside};
 
 // What a byte may be or begin in a line.
-#[derive(Clone, Copy)]
+#[derive(Clone, Copy, PartialEq, Eq, Debug)]
 pub enum Class {
     // No line holds it.
     Outside,
@@ -65,17 +65,11 @@ pub fn class_of(byte: u8) -> Class
 pub fn is_digit(byte: u8) -> bool
     ensures { result ≡ is_digit byte }
 {
-    match class_of(byte) {
-        Class::Digit => true,
-        _ => false,
-    }
+    class_of(byte) == Class::Digit
 }
 
 pub fn is_printable(byte: u8) -> bool
     ensures { result ≡ is_printable byte }
 {
-    match class_of(byte) {
-        Class::Outside => false,
-        _ => true,
-    }
+    class_of(byte) != Class::Outside
 }

@@ -5,7 +5,7 @@ ghost use Rattle.text.specs.Fields.{bytes_of, form_of, form_in, letter_of, numbe
 use crate::classes::Class;
 use crate::{classes, numbers};
 
-#[derive(Clone, Copy)]
+#[derive(Clone, Copy, PartialEq, Eq, Debug)]
 pub enum Field<'a> {
     Letter(char),
     // All its bytes, of which the first is a digit.
@@ -45,10 +45,7 @@ impl<'a> Field<'a> {
     pub fn is_dash(self) -> bool
         ensures { result ≡ is_dash self.entry }
     {
-        match self {
-            Field::Operator('-') => true,
-            _ => false,
-        }
+        matches!(self, Field::Operator('-'))
     }
 
     pub fn number(self, low: u32, high: u32) -> Option<u32>

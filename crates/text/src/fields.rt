@@ -6,6 +6,7 @@ ghost use Rattle.text.specs.Places.{field_at};
 ghost use Rattle.text.specs.Reading.{left_of, line_of, head_of, Taken, read_letter, read_number, read_end};
 
 use crate::field::Field;
+use crate::line::Line;
 use crate::{pieces, places};
 use fault::{Fault, Reason};
 
@@ -16,14 +17,13 @@ pub struct Fields<'a> {
 }
 
 impl<'a> Fields<'a> {
-    // The fields of the bytes of a line, whose number is given.
-    pub fn new(bytes: &'a [u8], line: u16) -> Fields<'a>
-        ensures left { left_of result ≡ pieces 44 bytes.now }
-        ensures line { line_of result ≡ line }
+    pub fn new(line: Line<'a>) -> Fields<'a>
+        ensures left { left_of result ≡ pieces 44 line.entry.bytes.now }
+        ensures line { line_of result ≡ line.entry.number }
     {
         Fields {
-            rest: Some(bytes),
-            line,
+            rest: Some(line.bytes),
+            line: line.number,
         }
     }
 
@@ -33,14 +33,9 @@ impl<'a> Fields<'a> {
         ensures formed { FormedIfAny result }
         ensures taken { Taken self.old self.new }
     {
-        match self.rest {
-            Some(bytes) => {
-                let (part, rest) = pieces::cut(bytes, b',');
-                self.rest = rest;
-                Some(Field::of(part))
-            }
-            None => None,
-        }
+        let (part, rest) = pieces::cut(self.rest?, b',');
+        self.rest = rest;
+        Some(Field::of(part))
     }
 
     // The refusal of the field at a place; the letter has the place 1.
@@ -55,26 +50,23 @@ impl<'a> Fields<'a> {
         ensures value { result ≡ read_letter (line_of self.old) (left_of self.old) }
         ensures taken { Taken self.old self.new }
     {
-        if let Some(field) = self.take() {
-            if let Some(letter) = field.letter() {
-                return Ok(letter);
-            }
+        match self.take().and_then(Field::letter) {
+            Some(letter) => Ok(letter),
+            None => Err(places::placed(Reason::Letter, self.line, 1)),
         }
-        Err(places::placed(Reason::Letter, self.line, 1))
     }
 
+    #[tactic(auto, using(crate::proofs::Forms::number_is_by_bytes))]
     // The field at a place, which is a number from `low` to `high`.
     pub fn number(&mut self, place: u8, low: u32, high: u32) -> Result<u32, Fault>
         ensures value { result ≡ read_number (line_of self.old) place low high (left_of self.old) }
         ensures range { IfOk result (λ n. (low ≤ n) × (n ≤ high)) }
         ensures taken { Taken self.old self.new }
     {
-        if let Some(field) = self.take() {
-            if let Some(n) = field.number(low, high) {
-                return Ok(n);
-            }
+        match self.take().and_then(|field| field.number(low, high)) {
+            Some(n) => Ok(n),
+            None => Err(self.fault(place)),
         }
-        Err(self.fault(place))
     }
 
     // The same, in one byte.
@@ -90,9 +82,9 @@ impl<'a> Fields<'a> {
     pub fn end(&self, place: u8) -> Result<(), Fault>
         ensures { result ≡ read_end (line_of self.now) place (left_of self.now) }
     {
-        match self.rest {
-            Some(_) => Err(self.fault(place)),
-            None => Ok(()),
+        if self.rest.is_some() {
+            return Err(self.fault(place));
         }
+        Ok(())
     }
 }

@@ -4,6 +4,7 @@
 mod classes;
 mod field;
 mod fields;
+mod line;
 mod lines;
 mod numbers;
 mod pieces;
@@ -12,7 +13,8 @@ mod places;
 pub use classes::{Class, class_of};
 pub use field::Field;
 pub use fields::Fields;
-pub use lines::{TEXT_LIMIT, next_line};
+pub use line::Line;
+pub use lines::{Lines, TEXT_LIMIT};
 pub use numbers::number;
 pub use pieces::cut;
 pub use places::placed;

@@ -1,44 +1,66 @@
-// Lines of a text.
-ghost use Rattle.std.specs.Prelude.{◌≡◌};
-ghost use Rattle.text.specs.Lines.{is_clean, NextLine};
+// The lines of a text, one after the other.
+ghost use Rattle.std.specs.Prelude.{◌+◌, ◌≤◌, length};
+ghost use Rattle.text.specs.Lines.{text_limit};
 
-use crate::{classes, pieces, places};
+use crate::line::Line;
+use crate::pieces;
 use fault::{Fault, Reason};
 
 // The most bytes of a text.
 pub const TEXT_LIMIT: usize = 8192;
 
-// The most bytes of a line before its line feed.
-pub const LINE_LIMIT: usize = 80;
-
-// Short enough, and each byte printable.
-pub fn is_clean(line: &[u8]) -> bool
-    ensures { result ≡ is_clean line.now }
-{
-    if line.len() > LINE_LIMIT {
-        return false;
-    }
-    for &byte in line {
-        if !classes::is_printable(byte) {
-            return false;
-        }
-    }
-    true
+// What is left of a text behind `count` lines. Each line takes a byte, so that its number fits.
+#[derive(Drop)]
+pub struct Lines<'a> {
+    left: &'a [u8],
+    count: u16,
+    ghost short: { count + length left.now ≤ text_limit },
 }
 
-// The first line of what is left of a text, and what follows it; none where nothing is left.
-pub fn next_line<'a>(left: &'a [u8], number: u16) -> Result<Option<(&'a [u8], &'a [u8])>, Fault>
-    ensures { NextLine number left.now result }
-{
-    if left.is_empty() {
-        return Ok(None);
+impl<'a> Lines<'a> {
+    ghost use Rattle.text.specs.Numbered.{Begun};
+
+    pub fn new(text: &'a [u8]) -> Result<Lines<'a>, Fault>
+        ensures { Begun text.now result }
+    {
+        if text.len() > TEXT_LIMIT {
+            return Err(Fault::unplaced(Reason::Overlong));
+        }
+        Ok(Lines {
+            left: text,
+            count: 0,
+        })
     }
-    let (line, rest) = pieces::cut(left, b'\n');
-    let Some(rest) = rest else {
-        return Err(places::placed(Reason::Ragged, number, 0));
-    };
-    if !is_clean(line) {
-        return Err(places::placed(Reason::Ragged, number, 0));
+}
+
+impl<'a> Iterator for Lines<'a> {
+    ghost use Rattle.std.specs.Iterator.{item_count};
+    ghost use Rattle.text.specs.Numbered.{GivesLine, bytes_left};
+
+    type Item = Result<Line<'a>, Fault>;
+
+    ghost next_gives = { GivesLine };
+
+    ghost remaining = { item_count bytes_left };
+
+    // A line that is refused is the last.
+    fn next(&mut self) -> Option<Result<Line<'a>, Fault>> {
+        if self.left.is_empty() {
+            return None;
+        }
+        let (bytes, rest) = pieces::cut(self.left, b'\n');
+        let number = self.count + 1;
+        let line = Line { bytes, number };
+        match rest {
+            Some(rest) if line.is_clean() => {
+                self.left = rest;
+                self.count = number;
+                Some(Ok(line))
+            }
+            _ => {
+                self.left = &[];
+                Some(Err(line.fault(Reason::Ragged, 0)))
+            }
+        }
     }
-    Ok(Some((line, rest)))
 }

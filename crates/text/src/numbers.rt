@@ -11,10 +11,7 @@ pub fn number(bytes: &[u8], low: u32, high: u32) -> Option<u32>
 {
     match bytes {
         [] | [b'0', _, ..] => None,
-        _ => match digits(bytes, high) {
-            Some(n) if n >= low => Some(n),
-            _ => None,
-        },
+        _ => digits(bytes, high).filter(|n| *n >= low),
     }
 }
 
