@@ -1,3 +1,4 @@
 pub mod Transitions
 pub mod Sheets
 pub mod Filling
+pub mod Outs

@@ -13,7 +13,7 @@ use Rattle.text.specs.Texts.{strict}
 use Rattle.text.proofs.Built.{accepted_text_is_written, written_text_is_accepted}
 use Rattle.text.proofs.Cutting.{Free}
 use Rattle.text.proofs.Printing.{length_fed, clean_is_free}
-use Rattle.fault.proofs.Then.{cond_ok}
+use Rattle.fault.proofs.Then.{cond_ok, ok_not_err}
 use Rattle.switch.specs.declared.line.SwitchLine.{SwitchLine}
 use Rattle.switch.specs.Reading.{blank, parse, keep, lines_in, reading, counted, padded, answer, lines_after}
 use Rattle.switch.specs.Writing.{line_bytes, written, Fit, Sheet, ReadingInvertsWriting, Accepts}
@@ -78,9 +78,6 @@ written_is_reading t ls h =
 pub reading_inverts_writing : ReadingInvertsWriting
 reading_inverts_writing t ls = (reading_is_written t ls, written_is_reading t ls)
 
-no_ok : (f : Fault) (ls : List SwitchLine) → ◌≡◌ {A = Result (List SwitchLine) Fault} (Err f) (Ok ls) → ⊥
-no_ok f ls e = let z : ◌≡◌ {A = ℕ} 0 1 = cc in omega arith
-
 by_reading : (t : List ℕ) (before : List SwitchLine) (x : Result (List SwitchLine) Fault) (b : Bool) → reading t ≡ x → leb 64 (length before) ≡ b → Accepts t before (cond b (counted x) (Err (unplaced reason.Slip))) (cond b (padded (length before) x) before)
 by_reading t before (Ok ls) true e s =
     let h = reading_is_written t ls e in
@@ -90,7 +87,7 @@ by_reading t before (Ok ls) true e s =
       subst (λ (x : List SwitchLine). Sheet x) (sym q) h.1,
       subst (λ (x : List SwitchLine). t ≡ written x) (sym q) h.0,
     )
-by_reading t before (Err f) true e s = λ _ ls sheet w. no_ok f ls (sym e ∙ written_is_reading t ls (w, sheet))
+by_reading t before (Err f) true e s = λ _ ls sheet w. ok_not_err ls f (sym (written_is_reading t ls (w, sheet)) ∙ e)
 by_reading t before x false e s = λ room. let lt = leb-false 64 (length before) s in absurd (omega arith)
 
 pub answer_accepts : (t : List ℕ) (before : List SwitchLine) (r : Result ℕ Fault) (after : List SwitchLine) → r ≡ answer (length before) t → after ≡ lines_after t before → Accepts t before r after

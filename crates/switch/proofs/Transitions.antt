@@ -1,7 +1,6 @@
 -- A line is read as l exactly if it is the writing of l. Assumes nothing.
-use Rattle.std.proofs.Common.{◌≡◌, ℕ, ◌^◌, ◌<◌, ◌≤◌, Bool, true, false, cond, eqb, List, [], ◌∷◌, length, Some, None, Ok, Err, decimal, Option, Result, sym, refl, ap, ◌∙◌, subst, arith}
+use Rattle.std.proofs.Common.{◌≡◌, ℕ, ◌^◌, ◌<◌, ◌≤◌, Bool, true, false, cond, eqb, List, [], ◌∷◌, length, Some, None, Ok, Err, decimal, Option, sym, refl, ap, ◌∙◌, subst, arith}
 use Rattle.std.proofs.lemmas.Bool.{eqb-true}
-use Rattle.fault.specs.declared.Fault.{Fault}
 use Rattle.text.specs.Fields.{dash_in}
 use Rattle.text.specs.Lines.{all_printable, is_clean}
 use Rattle.text.specs.Numbers.{all_digits, number_in}
@@ -13,7 +12,7 @@ use Rattle.text.proofs.Decimals.{number_read_is_decimal, decimal_is_digits, deci
 use Rattle.text.proofs.Printing.{printable_marked, length_marked, short_printable_is_clean}
 use Rattle.text.proofs.Taking.{letter_read_is_first, dash_is_its_byte, number_read_is_first, first_decimal_is_read, end_read_is_no_field}
 use Rattle.text.proofs.WrittenFields.{WrittenWell, decimal_is_well}
-use Rattle.fault.proofs.Then.{then_ok, ok_then, cond_ok}
+use Rattle.fault.proofs.Then.{same_ok, then_ok, ok_then, cond_ok}
 use Rattle.switch.specs.declared.line.SwitchLine.{SwitchLine}
 use Rattle.switch.specs.Reading.{as_out, read_out, most_value, read_rest, line_in, parse}
 use Rattle.switch.specs.Writing.{out_bytes, fields_of, line_bytes, Makes, Fit}
@@ -68,9 +67,6 @@ most_small : (o : Option ℕ) → most_value o < 2 ^ 32
 most_small None = omega arith
 most_small (Some c) = omega arith
 
-ok_is : (x y : SwitchLine) → ◌≡◌ {A = Result SwitchLine Fault} (Ok x) (Ok y) → x ≡ y
-ok_is x y e = cc
-
 -- facts on what is left after each field make all fields
 all_fields : (f2 f3 f4 f5 f6 f7 f8 f9 : List (List ℕ)) (b c d e f g h : List ℕ) → f2 ≡ b ∷ f3 → f3 ≡ c ∷ f4 → f4 ≡ d ∷ f5 → f5 ≡ e ∷ f6 → f6 ≡ f ∷ f7 → f7 ≡ g ∷ f8 → f8 ≡ h ∷ f9 → f9 ≡ [] → f2 ≡ b ∷ c ∷ d ∷ e ∷ f ∷ g ∷ h ∷ []
 all_fields f2 f3 f4 f5 f6 f7 f8 f9 b c d e f g h e2 e3 e4 e5 e6 e7 e8 e9 = cc
@@ -101,7 +97,7 @@ rest_back n f2 l e =
     let a8 = number_read_is_first n 8 0 (most_value t7.0) f8 t8.0 (omega (arith, most_small t7.0)) t8.1 in
     let a9 = end_read_is_no_field n 9 f9 t9.0 t9.1 in
     let m : SwitchLine = record { state = t2.0; channel = t3.0; low = t4.0; high = t5.0; next = t6.0; out = t7.0; value = t8.0 } in
-    let q : m ≡ l = ok_is m l t9.2 in
+    let q : m ≡ l = same_ok m l t9.2 in
     subst (λ (k : SwitchLine). (f2 ≡ tail_of (fields_of k)) × Fit k) q (
       all_fields f2 f3 f4 f5 f6 f7 f8 f9 _ _ _ _ _ _ _ a2.0 a3.0 a4.0 a5.0 a6.0 a7.0 a8.0 a9,
       record { state = omega (arith, a2.2); channel = omega (arith, a3.2); low = a5.1; high = omega (arith, a5.2); next = omega (arith, a6.2); out = makes t7.0 t8.0 a7.1 a8.2 },

@@ -1,12 +1,12 @@
 // A line of a switch sheet.
-#[derive(Clone, Copy)]
+#[derive(Clone, Copy, PartialEq, Eq, Debug)]
 pub struct SwitchLine {
     pub state: u8,
     pub channel: u8,
     pub low: u32,
     pub high: u32,
     pub next: u8,
-    // None makes no ticket, and has the value 0.
+    // None makes no ticket, and has the value 0. Not one Option of both: what takes lines refuses the others.
     pub out: Option<u8>,
     pub value: u32,
 }

@@ -2,30 +2,32 @@
 ghost use Rattle.std.specs.Prelude.{◌≡◌, ◌≤◌, length, replicate};
 ghost use Rattle.text.specs.Pieces.{pieces};
 ghost use Rattle.text.specs.Reading.{left_of, line_of, Taken};
-ghost use Rattle.switch.specs.Reading.{sheet_limit, blank, read_out, read_rest, line_in, reading, Filled, answer, lines_after};
+ghost use Rattle.switch.specs.Reading.{sheet_limit, blank, out_of, read_out, read_rest, line_in, reading, Filled, answer, lines_after};
 ghost use Rattle.switch.specs.Writing.{Accepts, ReadingInvertsWriting};
 
 use crate::line::SwitchLine;
 use fault::{Fault, Reason};
-use text::{Fields, TEXT_LIMIT, next_line, placed};
+use text::{Field, Fields, Line, Lines};
 
 // The most lines of a sheet.
 pub const SHEET_LIMIT: usize = 64;
 
 // An out channel, 16 to 31, or `-` for none.
+fn out_of(field: Field<'_>) -> Option<Option<u8>>
+    ensures { result ≡ out_of field.entry }
+{
+    if field.is_dash() {
+        return Some(None);
+    }
+    Some(Some(field.number(16, 31)? as u8))
+}
+
+#[tactic(auto, using(crate::proofs::Outs::out_is_by_bytes))]
 fn read_out(fields: &mut Fields<'_>) -> Result<Option<u8>, Fault>
     ensures value { result ≡ read_out (line_of fields.old) (left_of fields.old) }
     ensures taken { Taken fields.old fields.new }
 {
-    if let Some(field) = fields.take() {
-        if field.is_dash() {
-            return Ok(None);
-        }
-        if let Some(channel) = field.number(16, 31) {
-            return Ok(Some(channel as u8));
-        }
-    }
-    Err(fields.fault(7))
+    fields.take().and_then(out_of).ok_or(fields.fault(7))
 }
 
 // The fields after the letter.
@@ -55,14 +57,13 @@ fn read_rest(fields: &mut Fields<'_>) -> Result<SwitchLine, Fault>
     })
 }
 
-// One line, whose number is given.
-fn read_line(line: &[u8], number: u16) -> Result<SwitchLine, Fault>
-    ensures { result ≡ line_in number (pieces 44 line.now) }
+fn read_line(line: Line<'_>) -> Result<SwitchLine, Fault>
+    ensures { result ≡ line_in line.entry.number (pieces 44 line.entry.bytes.now) }
 {
-    let mut fields = Fields::new(line, number);
+    let mut fields = Fields::new(line);
     match fields.letter()? {
         'T' => read_rest(&mut fields),
-        _ => Err(placed(Reason::Letter, number, 1)),
+        _ => Err(line.fault(Reason::Letter, 1)),
     }
 }
 
@@ -72,24 +73,17 @@ fn fill_lines(text: &[u8], lines: &mut [SwitchLine]) -> Result<usize, Fault>
     requires blank { lines.old ≡ replicate (length lines.old) blank }
     ensures { Filled (reading text.now) result lines.new }
 {
-    if text.len() > TEXT_LIMIT {
-        return Err(Fault::unplaced(Reason::Overlong));
-    }
-    let mut left = text;
-    let mut count: usize = 0;
-    loop {
-        let number = count as u16 + 1;
-        let Some((line, rest)) = next_line(left, number)? else {
-            return Ok(count);
-        };
-        let read = read_line(line, number)?;
+    let mut count = 0;
+    for line in Lines::new(text)? {
+        let line = line?;
+        let read = read_line(line)?;
         if count >= SHEET_LIMIT {
-            return Err(placed(Reason::Full, number, 1));
+            return Err(line.fault(Reason::Full, 1));
         }
         lines[count] = read;
         count += 1;
-        left = rest;
     }
+    Ok(count)
 }
 
 // The sheet that a text is the writing of, in at least 64 lent lines; the answer counts its lines.
@@ -102,13 +96,11 @@ pub fn read_switch(text: &[u8], lines: &mut [SwitchLine]) -> Result<usize, Fault
         return Err(Fault::unplaced(Reason::Slip));
     }
     lines.fill(SwitchLine::BLANK);
-    match fill_lines(text, lines) {
-        Ok(count) => Ok(count),
-        Err(fault) => {
-            lines.fill(SwitchLine::BLANK);
-            Err(fault)
-        }
+    let read = fill_lines(text, lines);
+    if read.is_err() {
+        lines.fill(SwitchLine::BLANK);
     }
+    read
 }
 
 // A theorem: a text is read as some lines exactly if it is the writing of them, and they make a sheet.

@@ -1,18 +1,9 @@
-use Rattle.std.proofs.Common.{◌≡◌, length, Ok, Err, rules}
-use Rattle.switch.specs.Reading.{reading, answer, lines_after}
-use Rattle.switch.proofs.Filling.{refused}
+use Rattle.std.proofs.Common.{rules}
 use Rattle.switch.proofs.Sheets.{answer_accepts}
 use Rattle.switch.proofs.reader.read_switch.Goals as goal
 
-pub returns-in-Ok : goal.returns-in-Ok
-returns-in-Ok c =
-    let v : Ok c.in-Ok.count ≡ answer (length c.args.lines.now) c.args.text.now = search rules in
-    let l : c.fill_lines.new.lines ≡ lines_after c.args.text.now c.args.lines.now = search rules in
-    record { value = v; lines = l; accepts = answer_accepts c.args.text.now c.args.lines.now _ _ v l }
+pub returns-then-is_err-clause-accepts : goal.returns-then-is_err-clause-accepts
+returns-then-is_err-clause-accepts c = answer_accepts c.args.text.now c.args.lines.now c.fill_lines-read.result c.fill-then-is_err.new.self (search rules) (search rules)
 
-pub returns-in-Err : goal.returns-in-Err
-returns-in-Err c =
-    let e = refused (reading c.args.text.now) c.in-Err.fault _ c.in-Err.ensures in
-    let v : Err c.in-Err.fault ≡ answer (length c.args.lines.now) c.args.text.now = search rules in
-    let l : c.fill-in-Err.new.self ≡ lines_after c.args.text.now c.args.lines.now = search rules in
-    record { value = v; lines = l; accepts = answer_accepts c.args.text.now c.args.lines.now _ _ v l }
+pub returns-else-is_err-clause-accepts : goal.returns-else-is_err-clause-accepts
+returns-else-is_err-clause-accepts c = answer_accepts c.args.text.now c.args.lines.now c.fill_lines-read.result c.fill_lines-read.new.lines (search rules) (search rules)

@@ -1,6 +1,0 @@
-use Rattle.std.proofs.Common.{rules}
-use Rattle.text.proofs.Forms.{number_is_by_bytes, dash_is_by_bytes}
-use Rattle.switch.proofs.reader.read_out.Goals as goal
-
-pub returns : goal.returns
-returns c = search (rules, number_is_by_bytes, dash_is_by_bytes)
