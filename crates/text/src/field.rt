@@ -17,6 +17,7 @@ pub enum Field<'a> {
 }
 
 impl<'a> Field<'a> {
+    #[tactic(auto, using(crate::proofs::Forms::alone, crate::proofs::Forms::split_first))]
     pub fn of(part: &'a [u8]) -> Field<'a>
         ensures bytes { bytes_of result ≡ part.now }
         ensures form { form_of result ≡ form_in part.now }
