@@ -9,7 +9,7 @@ use fault::Fault;
 use itoa::Buffer;
 use std::alloc::AllocError;
 
-// The words that lines are printed with.
+// The words that lines are printed with. No Display: what `write!` leaves where memory runs out, std does not say.
 #[derive(Clone, Copy, PartialEq, Eq, Debug)]
 pub enum Keyword {
     In,
