@@ -17,12 +17,12 @@ use sheet::LevelSheet;
 use sheet_reader::read_sheet;
 use std::alloc::AllocError;
 
-// The parts of the input, as refusals count them.
+// The parts of the input, as refusals count them: 0 is the whole.
 const WHOLE: u8 = 0;
 
-const SCHEME: u8 = 1;
+const SCHEME_PART: u8 = 1;
 
-const SHEET: u8 = 2;
+const SHEET_PART: u8 = 2;
 
 // What is printed of the third part, under a scheme and a sheet that were read.
 pub trait PartReport {
@@ -72,7 +72,7 @@ fn report_under_scheme<P: PartReport>(
     match read_scheme(line) {
         Ok(SchemeChoice::Chain(chain)) => report_under_sheet::<P, _>(out, &chain, text, part),
         Ok(SchemeChoice::Parties(parties)) => report_under_sheet::<P, _>(out, &parties, text, part),
-        Err(fault) => put_fault(out, SCHEME, fault),
+        Err(fault) => put_fault(out, SCHEME_PART, fault),
     }
 }
 
@@ -87,6 +87,6 @@ fn report_under_sheet<P: PartReport, S: Scheme>(
     let mut sheet = LevelSheet::uniform(0);
     match read_sheet(text, scheme, &mut sheet) {
         Ok(()) => P::report_part(out, scheme, &sheet, part),
-        Err(fault) => put_fault(out, SHEET, fault),
+        Err(fault) => put_fault(out, SHEET_PART, fault),
     }
 }
