@@ -1,5 +1,5 @@
 -- The level of a batch, ticket by ticket, and that it is the least above them. Assumes nothing.
-use Rattle.std.proofs.Common.{◌≡◌, ℕ, ◌/◌, ◌<◌, true, List, [], ◌∷◌, ◌++◌, map, length, get_or, Ok, Err, Result, refl, arith, rules}
+use Rattle.std.proofs.Common.{◌≡◌, ℕ, ◌/◌, ◌<◌, true, List, [], ◌∷◌, ◌++◌, map, length, get_or, Ok, Err, Result, refl, rules}
 use Rattle.std.specs.List.{AllByRecursion}
 use Rattle.fault.specs.declared.Fault.{Fault}
 use Rattle.fault.specs.Faults.{then}
@@ -62,7 +62,7 @@ module _ {L : Levels} (laws : Lattice L) where
     levelled bytes small r e = by_batch (batch bytes) refl e where
       by_batch : (b : Result (List Ticket) Fault) → batch bytes ≡ b → r ≡ then b (λ ts. Ok (join_each L L.lowest (map (ticket_level sheet) ts))) → Levelled L sheet bytes r
       by_batch (Ok ts) is e = rw e (ts, batch_carries bytes ts small is, least_above ts)
-      by_batch (Err f) is e = rw e (λ _ ts carries. let z : ◌≡◌ {A = ℕ} 0 1 = cc (batch_reads bytes ts carries) in omega arith)
+      by_batch (Err f) is e = rw e (λ _ ts carries. cc (batch_reads bytes ts carries))
 
 pub checked_has : (L : Levels) (sheet : LevelSheet) → Ok tt ≡ checked L sheet → has_sheet L sheet ≡ true
 checked_has L sheet e = search rules

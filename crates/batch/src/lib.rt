@@ -29,9 +29,8 @@ fn join_tickets<S: Scheme>(scheme: &S, sheet: &LevelSheet, bytes: &[u8]) -> Resu
     let mut level = scheme.lowest();
     for record in bytes.chunks_exact(8) {
         let ticket = Ticket::decode(record)?;
-        // Both are levels, so there is a join.
         let join = scheme.join(level, sheet.channel_level(ticket.channel));
-        level = join.unwrap_or(level);
+        level = join.unwrap();
     }
     Ok(level)
 }

@@ -1,7 +1,6 @@
 -- Blanks behind the filled part of a table. Assumes nothing.
-use Rattle.std.proofs.Common.{◌≡◌, ℕ, zero, suc, ◌+◌, ◌-◌, ◌<◌, ◌≤◌, Bool, true, false, cond, ◌&&◌, eqb, List, [], ◌∷◌, ◌++◌, length, get_or, take, drop, replicate, refl, ap, ◌∙◌, arith, length-append}
-use Rattle.std.proofs.lemmas.List.{take_more, drop_more, drop_all, length-take-le}
-use Rattle.std.proofs.lemmas.Bool.{and_parts, eqb-true}
+use Rattle.std.proofs.Common.{◌≡◌, ℕ, zero, suc, ◌+◌, ◌-◌, ◌<◌, ◌≤◌, Bool, true, false, not, cond, eqb, List, [], ◌∷◌, ◌++◌, length, get_or, drop, replicate, refl, ap, ◌∙◌, arith, length-append}
+use Rattle.std.proofs.lemmas.Bool.{and_parts, eqb-true, not-true, not-false}
 use Rattle.program.specs.declared.rows.Kind.{Kind}
 use Rattle.program.specs.declared.rows.Kind.TheVariants.{Skip, Handler, Assign, Output, If, While, Else, Close}
 use Rattle.program.specs.declared.rows.Row.{Row}
@@ -10,45 +9,16 @@ use Rattle.program.specs.declared.rows.Term.TheVariants.{Input, Constant, Variab
 use Rattle.program.specs.Building.{blank_row, blank_term}
 use Rattle.flat_form.specs.Extents.{is_skip, is_blank, filled, extent, is_input, all_blank}
 
-never : {P : Type 0} → false ≡ true → P
-never e = let z : ◌≡◌ {A = ℕ} 0 1 = cc in absurd (omega arith)
-
--- the last row is blank, or not
-pub blank_last : (rows : List Row) (r : Row) → is_blank r ≡ true → extent (rows ++ r ∷ []) ≡ extent rows
-blank_last [] r e = ap (λ b. cond b 0 1) e
-blank_last (q ∷ rows) r e = ap (filled (is_blank q)) (blank_last rows r e)
-
-filled_more : (b : Bool) (n : ℕ) → filled b (n + 1) ≡ n + 1 + 1
-filled_more b n = let z : n + 1 ≡ suc n = omega arith in ap (filled b) z ∙ (let y : suc (suc n) ≡ n + 1 + 1 = omega arith in y)
-
-pub filled_last : (rows : List Row) (r : Row) → is_blank r ≡ false → extent (rows ++ r ∷ []) ≡ length rows + 1
-filled_last [] r e = ap (λ b. cond b 0 1) e
-filled_last (q ∷ rows) r e = ap (filled (is_blank q)) (filled_last rows r e) ∙ filled_more (is_blank q) (length rows) ∙ (let y : length rows + 1 + 1 ≡ suc (length rows) + 1 = omega arith in y)
-
--- the loop from the last row to the first
-module _ (rows : List Row) (n : ℕ) (some : 0 < n) (le : n ≤ length rows) where
-  last_is : take n rows ≡ take (n - 1) rows ++ get_or rows (n - 1) blank_row ∷ []
-  last_is = ap (λ k. take k rows) (let z : n ≡ n - 1 + 1 = omega arith in z) ∙ take_more rows (n - 1) blank_row (omega arith)
-
-  pub one_less : is_blank (get_or rows (n - 1) blank_row) ≡ true → extent rows ≡ extent (take n rows) → extent rows ≡ extent (take (n - 1) rows)
-  one_less e same = same ∙ ap extent last_is ∙ blank_last (take (n - 1) rows) (get_or rows (n - 1) blank_row) e
-
-  pub stops : is_blank (get_or rows (n - 1) blank_row) ≡ false → extent rows ≡ extent (take n rows) → n ≡ extent rows
-  stops e same =
-      let l = length-take-le (n - 1) rows (omega arith) in
-      let q = same ∙ ap extent last_is ∙ filled_last (take (n - 1) rows) (get_or rows (n - 1) blank_row) e in
-      omega arith
-
 -- what stands behind the extent is blank
 is_skip_says : (k : Kind) → is_skip k ≡ true → k ≡ Skip
 is_skip_says Skip e = refl
-is_skip_says (Handler c) e = never e
-is_skip_says (Assign v) e = never e
-is_skip_says (Output c) e = never e
-is_skip_says If e = never e
-is_skip_says While e = never e
-is_skip_says Else e = never e
-is_skip_says Close e = never e
+is_skip_says (Handler c) e = cc
+is_skip_says (Assign v) e = cc
+is_skip_says (Output c) e = cc
+is_skip_says If e = cc
+is_skip_says While e = cc
+is_skip_says Else e = cc
+is_skip_says Close e = cc
 
 blank_is : (r : Row) → is_blank r ≡ true → r ≡ blank_row
 blank_is r e =
@@ -59,6 +29,18 @@ blank_is r e =
     ∙ ap (λ n. record { kind = Skip; first = n; count = r.count; partner = r.partner }) (eqb-true r.first 0 b.0)
     ∙ ap (λ n. record { kind = Skip; first = 0; count = n; partner = r.partner }) (eqb-true r.count 0 c.0)
     ∙ ap (λ n. record { kind = Skip; first = 0; count = 0; partner = n }) (eqb-true r.partner 0 c.1)
+
+-- all rows are blank, or one is the last that is not
+pub all_are_blank : (rows : List Row) → ((k : ℕ) → k < length rows → not (is_blank (get_or rows k blank_row)) ≡ false) → extent rows ≡ 0
+all_are_blank [] h = refl
+all_are_blank (r ∷ rs) h = ap (filled (is_blank r)) (all_are_blank rs (λ k lt. h (suc k) (omega arith))) ∙ ap (λ b. cond b 0 1) (not-false (is_blank r) (h 0 (omega arith)))
+
+pub last_is : (rows : List Row) (i : ℕ) → i < length rows → not (is_blank (get_or rows i blank_row)) ≡ true → ((k : ℕ) → i + 1 ≤ k → k < length rows → not (is_blank (get_or rows k blank_row)) ≡ false) → extent rows ≡ i + 1
+last_is [] i lt e h = absurd (omega arith)
+last_is (r ∷ rs) zero lt e h =
+    ap (filled (is_blank r)) (all_are_blank rs (λ k lt. h (suc k) (omega arith) (omega arith))) ∙ ap (λ b. cond b 0 1) (not-true (is_blank r) e)
+last_is (r ∷ rs) (suc i) lt e h =
+    ap (filled (is_blank r)) (last_is rs i (omega arith) e (λ k le lt. h (suc k) (omega arith) (omega arith)) ∙ (let z : i + 1 ≡ suc i = omega arith in z)) ∙ (let y : suc (suc i) ≡ suc i + 1 = omega arith in y)
 
 abbrev BlankBehind : ℕ → List Row → Type 0
 BlankBehind n rows = (n ≤ length rows) × (drop n rows ≡ replicate (length rows - n) blank_row)
@@ -100,9 +82,9 @@ extent_before (r ∷ rows) rs some h =
 -- terms
 input_is : (t : Term) → is_input t ≡ true → t ≡ Input
 input_is Input e = refl
-input_is (Constant n) e = never e
-input_is (Variable v) e = never e
-input_is (Operator o) e = never e
+input_is (Constant n) e = cc
+input_is (Variable v) e = cc
+input_is (Operator o) e = cc
 
 pub all_blank_is : (ts : List Term) → all_blank ts ≡ true → ts ≡ replicate (length ts) blank_term
 all_blank_is [] e = refl
@@ -111,9 +93,3 @@ all_blank_is (t ∷ ts) e = let a = and_parts (is_input t) (all_blank ts) e in a
 pub blanks_are_blank : (k : ℕ) → all_blank (replicate k blank_term) ≡ true
 blanks_are_blank zero = refl
 blanks_are_blank (suc k) = blanks_are_blank k
-
-pub term_here : (ts : List Term) (i : ℕ) (b : Bool) → i < length ts → is_input (get_or ts i Input) ≡ b → all_blank (drop i ts) ≡ (b && all_blank (drop (i + 1) ts))
-term_here ts i b h e = ap all_blank (drop_more ts i Input h) ∙ ap (λ x. x && all_blank (drop (i + 1) ts)) e
-
-pub no_term_left : (ts : List Term) (i : ℕ) → length ts ≤ i → all_blank (drop i ts) ≡ true
-no_term_left ts i h = ap all_blank (drop_all i ts h)

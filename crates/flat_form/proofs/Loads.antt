@@ -1,6 +1,6 @@
 -- Tables are taken exactly if they hold the flat form of a program. Assumes nothing.
-use Rattle.std.proofs.Common.{◌≡◌, ℕ, ◌+◌, ◌-◌, ◌≤◌, true, cond, leb, List, [], ◌∷◌, length, take, drop, replicate, Some, None, Option, sym, refl, ap, ◌∙◌, subst, arith, length-append, length-drop}
-use Rattle.std.proofs.lemmas.List.{length-take-le, take_at, drop_at, length-map, take_all}
+use Rattle.std.proofs.Common.{◌≡◌, ℕ, ◌+◌, ◌-◌, ◌≤◌, true, cond, leb, List, [], ◌∷◌, ◌++◌, length, take, drop, replicate, Some, None, Option, sym, refl, ap, ◌∙◌, subst, arith, length-append, length-drop}
+use Rattle.std.proofs.lemmas.List.{length-take-le, take-append-drop, take_at, drop_at, length-map, take_all}
 use Rattle.std.proofs.lemmas.Bool.{le-leb, eq-eqb, eqb-true}
 use Rattle.language.specs.Block.{Tree}
 use Rattle.program.specs.declared.rows.Kind.TheVariants as kind
@@ -12,7 +12,6 @@ use Rattle.program.specs.Reading.{padded}
 use Rattle.program.specs.Trees.{tree_of}
 use Rattle.program.specs.Writing.{row, tree_rows, block_rows, width, flat_rows, flat_terms, Within}
 use Rattle.program.proofs.Cases.{split}
-use Rattle.program.proofs.Filling.{padded_is}
 use Rattle.program.proofs.Programs.{flat_form_tells_the_lines, flat_form_tells_the_program}
 use Rattle.flat_form.specs.Extents.{extent, all_blank, with_blanks, extents, is_all, is_program}
 use Rattle.flat_form.specs.Rebuilding.{used_by}
@@ -38,7 +37,7 @@ pub record IsFlat (p : Tree) (rows : List Row) (terms : List Term) : Type 0 wher
   pub terms_are : terms ≡ flat_terms p
 
 all_is : (n : ℕ) (o : Option ℕ) → is_all n o ≡ true → o ≡ Some n
-all_is n None e = let z : ◌≡◌ {A = ℕ} 0 1 = cc in absurd (omega arith)
+all_is n None e = cc
 all_is n (Some m) e = ap (λ k. Some k) (eqb-true m n e)
 
 -- tables that pass the test are the flat form of the program that they stand for
@@ -56,7 +55,7 @@ flat_is_program p w =
     ap (is_all n) (flat_is_taken p (flat_terms p) n w (omega arith) (take_all n (flat_terms p) (omega arith))) ∙ eq-eqb n n refl
 
 with_says : (n : ℕ) (terms : List Term) (o : Option ℕ) (e : ℕ × ℕ) → with_blanks n terms o ≡ Some e → (o ≡ Some e.1) × (e.0 ≡ n) × (all_blank (drop e.1 terms) ≡ true)
-with_says n terms None e h = let z : ◌≡◌ {A = ℕ} 0 1 = cc in absurd (omega arith)
+with_says n terms None e h = cc
 with_says n terms (Some m) e h =
     split (all_blank (drop m terms)) (Some (n, m)) None (Some e) h
     (λ b g.
@@ -64,7 +63,12 @@ with_says n terms (Some m) e h =
     let a = ap (λ (x : ℕ × ℕ). x.0) q in
     let c = ap (λ (x : ℕ × ℕ). x.1) q in
     (ap (λ k. Some k) c, sym a, subst (λ (k : ℕ). all_blank (drop k terms) ≡ true) c b))
-    (λ _ g. let z : ◌≡◌ {A = ℕ} 0 1 = cc in absurd (omega arith))
+    (λ _ g. cc)
+
+-- the first n, and blanks behind them
+padded_is : {X : Type 0} (b : X) (n : ℕ) (xs : List X) → n ≤ length xs → drop n xs ≡ replicate (length xs - n) b → xs ≡ padded b (length xs) (take n xs)
+padded_is b n xs le e =
+    sym (take-append-drop n xs) ∙ ap (λ d. take n xs ++ d) e ∙ ap (λ m. take n xs ++ replicate (length xs - m) b) (sym (length-take-le n xs le))
 
 -- the parts of tables that are taken
 pub record Parts (p : Tree) (rows : List Row) (terms : List Term) (n m : ℕ) : Type 0 where
@@ -92,7 +96,7 @@ extents_hold rows terms e h =
       terms_reach = le;
     } in
     (p, subst (λ (k : ℕ). Parts p rows terms k m) (sym s.1) parts))
-    (λ _ g. let z : ◌≡◌ {A = ℕ} 0 1 = cc in absurd (omega arith))
+    (λ _ g. cc)
 
 pub held_has_extents : (p : Tree) (rows : List Row) (terms : List Term) → Within p → Hold p rows terms → extents rows terms ≡ Some (length (flat_rows p), length (flat_terms p))
 held_has_extents p rows terms w h =
@@ -150,4 +154,4 @@ module _ (rows : List Row) (terms : List Term) (n m : ℕ) (e : extents rows ter
       (flat_parts.within, parts.hold, flat_parts.rows_are, flat_parts.terms_are)
 
 pub none_is_held : (rows : List Row) (terms : List Term) → extents rows terms ≡ None → (p : Tree) → Within p → Hold p rows terms → ⊥
-none_is_held rows terms e p w h = let q = held_has_extents p rows terms w h in let z : ◌≡◌ {A = ℕ} 0 1 = cc in omega arith
+none_is_held rows terms e p w h = let q = held_has_extents p rows terms w h in cc

@@ -23,9 +23,6 @@ use Rattle.flat_form.specs.Fitting.{fits_term, makes, expressed, fits_kind}
 use Rattle.flat_form.specs.Rebuilding.{fitted, after, again, same_partners, ends_in, used_by}
 use Rattle.flat_form.proofs.Again.{fitted_says, take_on}
 
-no : {P : Type 0} → false ≡ true → P
-no e = let z : ◌≡◌ {A = ℕ} 0 1 = cc in absurd (omega arith)
-
 fit_back : (t : Term) → fits_term t ≡ true → FitTerm t
 fit_back Input e = tt
 fit_back (Constant n) e = let a = leb-true n 4294967295 e in omega arith
@@ -35,7 +32,7 @@ fit_back (Operator o) e = tt
 makes_back : (l : ℕ) (ts : List Term) → makes l ts ≡ true → Whole l ts × AllByRecursion FitTerm ts
 makes_back l [] e = (eqb-true l 0 e, tt)
 makes_back l (t ∷ ts) e =
-    split (eqb l 0) false (cond (fits_term t) (makes (l - 1 + arity_of t) ts) false) true e (λ _ h. no h) (λ q h.
+    split (eqb l 0) false (cond (fits_term t) (makes (l - 1 + arity_of t) ts) false) true e (λ _ h. cc) (λ q h.
     let a = both_true (fits_term t) (makes (l - 1 + arity_of t) ts) h in
     let b = makes_back (l - 1 + arity_of t) ts a.1 in
     let ne = eqb-false l 0 q in
@@ -62,10 +59,7 @@ row_back Close ts e = nil_back ts e
 
 after_some : (x : Result Tables Fault) (k : Tables → Option Tables) (t : Tables) → after x k ≡ Some t → (u : Tables) × (x ≡ Ok u) × (k u ≡ Some t)
 after_some (Ok u) k t e = (u, refl, e)
-after_some (Err f) k t e = let z : ◌≡◌ {A = ℕ} 0 1 = cc in absurd (omega arith)
-
-no_tables : {P : Type 0} (t : Tables) → None ≡ Some t → P
-no_tables t e = let z : ◌≡◌ {A = ℕ} 0 1 = cc in absurd (omega arith)
+after_some (Err f) k t e = cc
 
 same_tables : (s t : Tables) → Some s ≡ Some t → s ≡ t
 same_tables s t e = cc
@@ -73,7 +67,7 @@ same_tables s t e = cc
 again_step : (terms : List Term) (s : Tables) (n : ℕ) (r : Row) (rs : List Row) (t : Tables) → again terms s n (r ∷ rs) ≡ Some t → (fitted terms (length s.terms) r ≡ true) × ((u : Tables) × (build s (n + 1) (line_from terms r) ≡ Ok u) × (again terms u (n + 1) rs ≡ Some t))
 again_step terms s n r rs t e =
     split (fitted terms (length s.terms) r) (after (build s (n + 1) (line_from terms r)) (λ u. again terms u (n + 1) rs)) None (Some t) e
-    (λ q h. (q, after_some (build s (n + 1) (line_from terms r)) (λ u. again terms u (n + 1) rs) t h)) (λ _ h. no_tables t h)
+    (λ q h. (q, after_some (build s (n + 1) (line_from terms r)) (λ u. again terms u (n + 1) rs) t h)) (λ _ h. cc)
 
 built : (terms : List Term) (s : Tables) (n : ℕ) (rs : List Row) (t : Tables) → again terms s n rs ≡ Some t → AllByRecursion FitLine (lines_from rs terms) × Built build s n (lines_from rs terms) t
 built terms s n [] t e = (tt, same_tables s t e)
@@ -160,8 +154,8 @@ tail_is x y xs ys e = cc
 
 rows_are : (rs qs : List Row) → map plain rs ≡ map plain qs → same_partners rs qs ≡ true → rs ≡ qs
 rows_are [] [] e p = refl
-rows_are [] (q ∷ qs) e p = let z : ◌≡◌ {A = ℕ} 0 1 = cc in absurd (omega arith)
-rows_are (r ∷ rs) [] e p = let z : ◌≡◌ {A = ℕ} 0 1 = cc in absurd (omega arith)
+rows_are [] (q ∷ qs) e p = cc
+rows_are (r ∷ rs) [] e p = cc
 rows_are (r ∷ rs) (q ∷ qs) e p =
     let a = both_true (eqb r.partner q.partner) (same_partners rs qs) p in
     ap (λ x. x ∷ rs) (one_row r q (head_is (plain r) (plain q) (map plain rs) (map plain qs) e) (eqb-true _ _ a.0))
@@ -170,15 +164,12 @@ rows_are (r ∷ rs) (q ∷ qs) e p =
 some_num : (a b : ℕ) → Some a ≡ Some b → a ≡ b
 some_num a b e = cc
 
-none_num : {P : Type 0} (b : ℕ) → None ≡ Some b → P
-none_num b e = let z : ◌≡◌ {A = ℕ} 0 1 = cc in absurd (omega arith)
-
 ends_back : (rows : List Row) (o : Option Tables) (m : ℕ) → ends_in rows o ≡ Some m → (t : Tables) × (o ≡ Some t) × (t.stack ≡ []) × (same_partners rows t.rows ≡ true) × (length t.terms ≡ m)
-ends_back rows None m e = none_num m e
+ends_back rows None m e = cc
 ends_back rows (Some t) m e =
     split (eqb (length t.stack) 0) (cond (same_partners rows t.rows) (Some (length t.terms)) None) None (Some m) e
-    (λ q h. split (same_partners rows t.rows) (Some (length t.terms)) None (Some m) h (λ p g. (t, refl, nil_from_length t.stack (eqb-true _ _ q), p, some_num _ m g)) (λ _ g. none_num m g))
-    (λ _ h. none_num m h)
+    (λ q h. split (same_partners rows t.rows) (Some (length t.terms)) None (Some m) h (λ p g. (t, refl, nil_from_length t.stack (eqb-true _ _ q), p, some_num _ m g)) (λ _ g. cc))
+    (λ _ h. cc)
 
 pub taken_is_flat : (rows : List Row) (terms : List Term) (m : ℕ) → used_by rows terms ≡ Some m → (p : Tree) × Within p × (rows ≡ flat_rows p) × (take m terms ≡ flat_terms p) × (m ≤ length terms)
 taken_is_flat rows terms m e =

@@ -1,5 +1,6 @@
 -- How far lent tables are filled: blanks follow the rows and terms of a program. Assumes nothing.
 use Rattle.std.specs.Prelude.{ℕ, zero, suc, Bool, true, false, cond, ◌&&◌, List, [], ◌∷◌, length, take, drop, Some, None, Option, ◌==◌, nat_le}
+use Rattle.std.specs.List.{list_all}
 use Rattle.program.specs.declared.rows.Kind.{Kind}
 use Rattle.program.specs.declared.rows.Kind.TheVariants.{Skip, Handler, Assign, Output, If, While, Else, Close}
 use Rattle.program.specs.declared.rows.Row.{Row}
@@ -38,8 +39,7 @@ is_input (Variable v) = false
 is_input (Operator o) = false
 
 abbrev pub all_blank : List Term → Bool
-all_blank [] = true
-all_blank (t ∷ ts) = is_input t && all_blank ts
+all_blank ts = list_all is_input ts
 
 abbrev pub with_blanks : ℕ → List Term → Option ℕ → Option (ℕ × ℕ)
 with_blanks n terms None = None

@@ -1,17 +1,14 @@
 // How far lent tables are filled.
-ghost use Rattle.std.specs.Prelude.{◌≡◌, ◌≤◌, length, IfSome};
-ghost use Rattle.flat_form.specs.Extents.{is_blank, extent, is_input, all_blank, extents};
+ghost use Rattle.std.specs.Prelude.{◌≡◌, ◌≤◌, not, length, IfSome};
+ghost use Rattle.flat_form.specs.Extents.{is_blank, extent, all_blank, extents};
 
 use crate::rebuild::used_by;
-use program::{Kind, ROW_LIMIT, Row, Term};
+use program::{ROW_LIMIT, Row, Term};
 
-fn is_blank(row: Row) -> bool
-    ensures { result ≡ is_blank row }
+fn is_filled(row: &Row) -> bool
+    ensures { result ≡ not (is_blank row.now) }
 {
-    match row.kind {
-        Kind::Skip => row.first == 0 && row.count == 0 && row.partner == 0,
-        _ => false,
-    }
+    *row != Row::BLANK
 }
 
 // How many rows there are up to the last that is not blank.
@@ -19,34 +16,16 @@ fn extent_of(rows: &[Row]) -> usize
     ensures value { result ≡ extent rows.now }
     ensures within { result ≤ length rows.now }
 {
-    let mut n = rows.len();
-    while n > 0 {
-        if !is_blank(rows[n - 1]) {
-            return n;
-        }
-        n -= 1;
-    }
-    n
-}
-
-fn is_input(term: Term) -> bool
-    ensures { result ≡ is_input term }
-{
-    match term {
-        Term::Input => true,
-        _ => false,
+    match rows.iter().rposition(is_filled) {
+        Some(last) => last + 1,
+        None => 0,
     }
 }
 
 fn is_all_blank(terms: &[Term]) -> bool
     ensures { result ≡ all_blank terms.now }
 {
-    for &t in terms {
-        if !is_input(t) {
-            return false;
-        }
-    }
-    true
+    terms.iter().all(|term| *term == Term::BLANK)
 }
 
 // How many rows and terms of the tables are a program's, where they hold the flat form of one, and blanks behind it.
@@ -58,11 +37,6 @@ pub fn extents_of(rows: &[Row], terms: &[Term]) -> Option<(usize, usize)>
     if count > ROW_LIMIT {
         return None;
     }
-    let Some(used) = used_by(&rows[..count], terms) else {
-        return None;
-    };
-    if !is_all_blank(&terms[used..]) {
-        return None;
-    }
-    Some((count, used))
+    let used = used_by(&rows[..count], terms)?;
+    is_all_blank(&terms[used..]).then_some((count, used))
 }

@@ -2,7 +2,7 @@
 ghost use Rattle.std.specs.Prelude.{◌≡◌};
 ghost use Rattle.flat_form.specs.Fitting.{fits_term, expressed, fits_kind};
 
-use program::{EXPRESSION_LIMIT, Kind, Term, arity};
+use program::{EXPRESSION_LIMIT, Kind, Term};
 
 fn fits_term(term: Term) -> bool
     ensures { result ≡ fits_term term }
@@ -14,6 +14,7 @@ fn fits_term(term: Term) -> bool
 }
 
 // The terms are one expression, in prefix order.
+#[tactic(auto, using(crate::proofs::Expressed::stops))]
 fn is_expression(terms: &[Term]) -> bool
     ensures { result ≡ expressed terms.now }
 {
@@ -21,14 +22,11 @@ fn is_expression(terms: &[Term]) -> bool
         return false;
     }
     let mut lacking: usize = 1;
-    for &t in terms {
-        if lacking == 0 {
+    for &term in terms {
+        if lacking == 0 || !fits_term(term) {
             return false;
         }
-        if !fits_term(t) {
-            return false;
-        }
-        lacking = lacking - 1 + arity(t);
+        lacking = lacking - 1 + term.arity();
     }
     lacking == 0
 }
@@ -37,10 +35,10 @@ pub fn fits(kind: Kind, terms: &[Term]) -> bool
     ensures { result ≡ fits_kind kind terms.now }
 {
     match kind {
-        Kind::Skip | Kind::Else | Kind::Close => terms.is_empty(),
-        Kind::Handler(c) => c <= 15 && terms.is_empty(),
-        Kind::Assign(v) => v <= 15 && is_expression(terms),
-        Kind::Output(c) => 16 <= c && c <= 31 && is_expression(terms),
-        Kind::If | Kind::While => is_expression(terms),
+        Kind::Skip | Kind::Else | Kind::Close | Kind::Handler(0..=15) => terms.is_empty(),
+        Kind::If | Kind::While | Kind::Assign(0..=15) | Kind::Output(16..=31) => {
+            is_expression(terms)
+        }
+        _ => false,
     }
 }

@@ -3,7 +3,7 @@ ghost use Rattle.std.specs.Prelude.{◌≡◌, ◌≤◌, length, IfSome};
 ghost use Rattle.flat_form.specs.Rebuilding.{fitted, same_partners, used_by};
 
 use crate::fit::fits;
-use program::{ROW_LIMIT, Row, Stack, Term, add_row};
+use program::{Nesting, ROW_LIMIT, Row, Term};
 
 // The row's terms begin where those of the row before end, are there, and are those that its kind wants.
 fn is_fitted(row: Row, used: usize, terms: &[Term]) -> bool
@@ -11,22 +11,16 @@ fn is_fitted(row: Row, used: usize, terms: &[Term]) -> bool
 {
     let first = row.first as usize;
     let end = first + row.count as usize;
-    if first != used || end > terms.len() {
-        return false;
-    }
-    fits(row.kind, &terms[first..end])
+    first == used && end <= terms.len() && fits(row.kind, &terms[first..end])
 }
 
 fn has_same_partners(rows: &[Row], own: &[Row]) -> bool
     requires { length rows.now ≤ length own.now }
     ensures { result ≡ same_partners rows.now own.now }
 {
-    for i in 0..rows.len() {
-        if rows[i].partner != own[i].partner {
-            return false;
-        }
-    }
-    true
+    rows.iter()
+        .zip(own)
+        .all(|(row, made)| row.partner == made.partner)
 }
 
 // How many of the terms the rows use, where they are the rows of a program.
@@ -36,27 +30,18 @@ pub fn used_by(rows: &[Row], terms: &[Term]) -> Option<usize>
     ensures within { IfSome result (λ m. m ≤ length terms.now) }
 {
     let mut own = [Row::BLANK; ROW_LIMIT];
-    let mut stack = Stack::EMPTY;
-    let mut used: usize = 0;
-    for j in 0..rows.len() {
-        let row = rows[j];
+    let mut nesting = Nesting::new();
+    let mut used = 0;
+    for (j, &row) in rows.iter().enumerate() {
         if !is_fitted(row, used, terms) {
             return None;
         }
-        let bare = Row {
-            kind: row.kind,
-            first: row.first,
-            count: row.count,
-            partner: 0,
-        };
-        match add_row(&mut own, &mut stack, j, bare, j as u16 + 1) {
-            Ok(()) => used += row.count as usize,
-            Err(_) => return None,
-        }
+        let bare = Row { partner: 0, ..row };
+        nesting.add(&mut own, bare, j as u16 + 1).ok()?;
+        used += row.count as usize;
     }
-    if stack.depth == 0 && has_same_partners(rows, &own[..rows.len()]) {
-        Some(used)
-    } else {
-        None
+    if nesting.is_open() || !has_same_partners(rows, &own[..rows.len()]) {
+        return None;
     }
+    Some(used)
 }

@@ -112,28 +112,3 @@ module _ (rows : List Row) (terms : List Term) where
       let r = get_or rows i blank_row in
       let g = by_kind i r r.kind (at_row i lt) h (sound i lt) n m in
       record { inside = g.inside; is = λ k. ap (λ b. b ⨟ k) g.is ∙ command_then r.kind (expression_at terms r) (frames_at rows terms (i + 1)) (here (frames_at rows terms (next_at rows i))) k }
-
-  -- a row that opens a block
-  pub opens_if : (i : ℕ) → i < length rows → (get_or rows i blank_row).kind ≡ kind.If → 0 < length (frames_at rows terms i) → 0 < length (frames_at rows terms (i + 1))
-  opens_if i lt e h = (branched_here (expression_at terms (get_or rows i blank_row)) (frames_at rows terms (i + 1)) (rw (at_kind i kind.If lt e) at h)).body
-
-  pub opens_while : (i : ℕ) → i < length rows → (get_or rows i blank_row).kind ≡ kind.While → 0 < length (frames_at rows terms i) → 0 < length (frames_at rows terms (i + 1))
-  opens_while i lt e h = (repeated_here (expression_at terms (get_or rows i blank_row)) (frames_at rows terms (i + 1)) (rw (at_kind i kind.While lt e) at h)).body
-
-  pub sound_at : Sound rows terms → (i : ℕ) (c : Kind) → i < length rows → (get_or rows i blank_row).kind ≡ c → SoundRow rows terms i (get_or rows i blank_row) c
-  sound_at sound i c lt e = rw e at (sound i lt)
-
-  -- how the branch of a row ends
-  ends_at : Sound rows terms → (i : ℕ) → i < length rows → (get_or rows i blank_row).kind ≡ kind.If → ClosesAlone rows terms i (get_or rows i blank_row).partner ⊎ Parts rows terms i (get_or rows i blank_row).partner (get_or rows (get_or rows i blank_row).partner blank_row).partner
-  ends_at sound i lt e = (sound_at sound i kind.If lt e).1
-
-  -- its second part stands behind an Else
-  pub second_behind : Sound rows terms → (i : ℕ) → i < length rows → (get_or rows i blank_row).kind ≡ kind.If → (get_or rows (get_or rows i blank_row).partner blank_row).kind ≡ kind.Else → second_of (frames_at rows terms (i + 1)) ≡ here (frames_at rows terms ((get_or rows i blank_row).partner + 1))
-  second_behind sound i lt e is = elim (ends_at sound i lt e) [ inl w ↦ apart (sym is ∙ w.closes.is_close) | inr w ↦ ap here (sym w.second) ]
-    where
-      apart : kind.Else ≡ kind.Close → second_of (frames_at rows terms (i + 1)) ≡ here (frames_at rows terms ((get_or rows i blank_row).partner + 1))
-      apart z = let n : ◌≡◌ {A = ℕ} 0 1 = cc in absurd (omega arith)
-
-  -- and where its partner is no Else there is none
-  pub no_second : Sound rows terms → (i : ℕ) → i < length rows → (get_or rows i blank_row).kind ≡ kind.If → ((get_or rows (get_or rows i blank_row).partner blank_row).kind ≡ kind.Else → ⊥) → second_of (frames_at rows terms (i + 1)) ≡ done
-  no_second sound i lt e n = elim (ends_at sound i lt e) [ inl w ↦ w.alone | inr w ↦ absurd (n w.is_else) ]

@@ -8,6 +8,4 @@ pub mod Nests
 pub mod Openings
 pub mod Outputs
 pub mod Reactions
-pub mod Running
 pub mod Steps
-pub mod Terms

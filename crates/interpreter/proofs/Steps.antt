@@ -20,9 +20,6 @@ pub full : (x n : ℕ) (s : List ℕ) (o : List Ticket) (c : ℕ) (e : Expr) (k 
 full x zero s o c e k h = refl
 full x (suc n) s o c e k h = grind (arith, nat_tests, h)
 
-pub zero_way : {A : Type 0} (x : ℕ) (a b : A) → x ≡ 0 → cond (eqb x 0) a b ≡ a
-zero_way x a b h = grind (arith, nat_tests, h)
-
 pub other_way : {A : Type 0} (x : ℕ) (a b : A) → (x ≡ 0 → ⊥) → cond (eqb x 0) a b ≡ b
 other_way x a b h = grind (arith, nat_tests, h)
 

@@ -1,6 +1,6 @@
 -- The row that opens a channel's handler, among rows. Assumes nothing.
 use Rattle.std.specs.Prelude.{◌≡◌, ℕ, ◌+◌, ◌<◌, List, length, Some, None, Option, slice_index_or}
-use Rattle.language.specs.Block.{done, handler_of}
+use Rattle.language.specs.Block.{Block, done, ◌⨟◌, handler_of}
 use Rattle.program.specs.declared.rows.Kind.TheVariants as kind
 use Rattle.program.specs.declared.rows.Row.{Row}
 use Rattle.program.specs.declared.rows.Term.{Term}
@@ -18,3 +18,7 @@ pub record BeginsAt (rows : List Row) (c i : ℕ) : Type 0 where
 abbrev pub Begins : List Row → ℕ → Option ℕ → Type 0
 Begins rows c None = (terms : List Term) → handler_of (tree_of rows terms) c ≡ done
 Begins rows c (Some i) = BeginsAt rows c i
+
+-- what the handler of channel c runs, and then k
+abbrev pub handled_at : List Row → List Term → ℕ → Block → Block
+handled_at rows terms c k = handler_of (tree_of rows terms) c ⨟ k

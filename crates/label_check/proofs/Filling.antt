@@ -4,7 +4,7 @@ use lib.ListN.{get_or-replicate}
 use Rattle.std.proofs.lemmas.Bool.{cases_eq}
 use Rattle.levels.specs.Scheme.{Levels, Lattice}
 use Rattle.levels.specs.Lattices.{join_level}
-use Rattle.label_check.specs.Tables.{entry, Filled}
+use Rattle.label_check.specs.Joins.{entry, Filled}
 
 pub filled_none : (L : Levels) → Filled L (replicate 16 (replicate 16 0)) 0 0
 filled_none L = record {

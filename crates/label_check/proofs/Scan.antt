@@ -1,34 +1,21 @@
 -- No row of a program breaks the label rule exactly if the program passes. Assumes nothing.
-use Rattle.std.proofs.Common.{◌≡◌, ℕ, ◌+◌, ◌-◌, Bool, true, false, cond, not, ◌&&◌, List, [], ◌∷◌, ◌++◌, Some, None, Option, sym, refl, ap, ◌∙◌, append_assoc, append-nil}
+use Rattle.std.proofs.Common.{◌≡◌, ℕ, ◌+◌, ◌-◌, Bool, true, false, cond, not, ◌&&◌, List, [], ◌∷◌, ◌++◌, Some, Option, sym, refl, ap, ◌∙◌, append_assoc}
+use Rattle.std.proofs.Math.Bool.{and_assoc, not-not}
 use Rattle.std.specs.List.{AllByRecursion}
+use Rattle.std.specs.Option.{is_none}
 use Rattle.language.specs.Expression.{Expr}
 use Rattle.language.specs.Block.{Block, done, skip, assign, output, branch, repeat, Tree}
 use Rattle.program.specs.Lines.{Line}
-use Rattle.program.specs.Trees.{first_expression, expression_of}
+use Rattle.program.specs.Trees.{expression_of}
 use Rattle.program.specs.Writing.{terms_of, else_line, close_line, block_lines, lines_of, FitBlock, FitHandler}
-use Rattle.interpreter.proofs.Expressing.{terms_make_their_expression}
+use Rattle.program.proofs.Spelling.{expression_of_its_terms}
 use Rattle.typing.specs.Labels.{Labels}
 use Rattle.typing.specs.Rule.{raised, passes, passes_all}
 use Rattle.label_check.specs.Rows.{fails, grounds, input_level, leak, first_leak}
 
-abbrev pub is_none : Option ℕ → Bool
-is_none None = true
-is_none (Some at) = false
-
-and_assoc : (a b c : Bool) → a && (b && c) ≡ (a && b) && c
-and_assoc true b c = refl
-and_assoc false b c = refl
-
-not_not : (a : Bool) → not (not a) ≡ a
-not_not true = refl
-not_not false = refl
-
 tested : (b : Bool) (at : ℕ) (o : Option ℕ) → is_none (cond b (Some at) o) ≡ not b && is_none o
 tested true at o = refl
 tested false at o = refl
-
-expression_of_its_terms : (e : Expr) → expression_of (terms_of e) ≡ e
-expression_of_its_terms e = ap expression_of (sym (append-nil (terms_of e))) ∙ ap first_expression (terms_make_their_expression e [])
 
 module _ (labels : Labels) where
   -- no row breaks the rule
@@ -48,7 +35,7 @@ module _ (labels : Labels) where
   -- a row that tests a level, before others
   aimed_keeps : (f : Expr → Bool) (e : Expr) (rest pass more : Bool) → rest ≡ pass && more → not (not (f (expression_of (terms_of e)))) && rest ≡ (f e && pass) && more
   aimed_keeps f e rest pass more h =
-      ap (λ a. not (not (f a)) && rest) (expression_of_its_terms e) ∙ ap (λ z. z && rest) (not_not (f e)) ∙ ap (λ z. f e && z) h ∙ and_assoc (f e) pass more
+      ap (λ a. not (not (f a)) && rest) (expression_of_its_terms e) ∙ ap (λ z. z && rest) (not-not (f e)) ∙ ap (λ z. f e && z) h ∙ sym (and_assoc (f e) pass more)
 
   -- the rows of a block, before others
   block_keeps : (d : ℕ) (b : Block) → FitBlock d b → (x g : ℕ) (gs : List ℕ) (ls : List Line) → keeps x (g ∷ gs) (block_lines b ++ ls) ≡ passes labels x g b && keeps x (g ∷ gs) ls
@@ -71,8 +58,8 @@ module _ (labels : Labels) where
       ap (keeps x (r ∷ g ∷ gs)) (append_assoc (block_lines q) end ls)
       ∙ block_keeps (d - 1) q fit.3 x r (g ∷ gs) (end ++ ls)
       ∙ ap (λ z. second && z) (block_keeps d k fit.5 x g gs ls)
-      ∙ and_assoc second (passes labels x g k) (keeps x (g ∷ gs) ls))
-      ∙ and_assoc first (second && passes labels x g k) (keeps x (g ∷ gs) ls)
+      ∙ sym (and_assoc second (passes labels x g k) (keeps x (g ∷ gs) ls)))
+      ∙ sym (and_assoc first (second && passes labels x g k) (keeps x (g ∷ gs) ls))
   block_keeps d (branch false e p q k) fit x g gs ls =
       let r = raised labels x g e in
       let first = passes labels x r p in
@@ -81,7 +68,7 @@ module _ (labels : Labels) where
       ∙ ap (keeps x (r ∷ g ∷ gs)) (append_assoc (block_lines p) end ls)
       ∙ block_keeps (d - 1) p fit.2 x r (g ∷ gs) (end ++ ls)
       ∙ ap (λ z. first && z) (block_keeps d k fit.5 x g gs ls)
-      ∙ and_assoc first (passes labels x g k) (keeps x (g ∷ gs) ls)
+      ∙ sym (and_assoc first (passes labels x g k) (keeps x (g ∷ gs) ls))
       ∙ ap (λ (b : Block). (first && (passes labels x r b && passes labels x g k)) && keeps x (g ∷ gs) ls) (sym fit.4)
   block_keeps d (repeat e p k) fit x g gs ls =
       let r = raised labels x g e in
@@ -91,7 +78,7 @@ module _ (labels : Labels) where
       ∙ ap (keeps x (r ∷ g ∷ gs)) (append_assoc (block_lines p) end ls)
       ∙ block_keeps (d - 1) p fit.2 x r (g ∷ gs) (end ++ ls)
       ∙ ap (λ z. first && z) (block_keeps d k fit.3 x g gs ls)
-      ∙ and_assoc first (passes labels x g k) (keeps x (g ∷ gs) ls)
+      ∙ sym (and_assoc first (passes labels x g k) (keeps x (g ∷ gs) ls))
 
   tree_keeps : (p : Tree) → AllByRecursion FitHandler p → (x : ℕ) → keeps x [] (lines_of p) ≡ passes_all labels p
   tree_keeps [] fit x = refl

@@ -1,3 +1,4 @@
 pub mod Checked
+pub mod Joins
 pub mod Rows
 pub mod Tables

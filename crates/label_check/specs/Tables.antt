@@ -1,16 +1,20 @@
 -- The label rule by a table of joins, and how a check goes on from a row. Assumes nothing.
-use Rattle.std.specs.Prelude.{◌≡◌, ℕ, ◌<◌, ◌≤◌, List, [], ◌∷◌, length, drop, Some, None, Ok, Err, Option, Result, ◌==◌, slice_index, slice_index_or}
+use Rattle.std.specs.Prelude.{◌≡◌, ℕ, ◌+◌, ◌<◌, ◌≤◌, true, cond, List, ◌∷◌, drop, Some, None, Ok, Err, Option, Result, ◌==◌, slice_index_or}
+use Rattle.fault.specs.declared.Fault.{Fault}
 use Rattle.levels.specs.Scheme.{Levels}
-use Rattle.sheet.specs.Sheets.{channel_level}
+use Rattle.sheet.specs.declared.LevelSheet.{LevelSheet}
+use Rattle.sheet.specs.Sheets.{has_sheet, checked}
 use Rattle.program.specs.declared.rows.Row.{Row}
 use Rattle.program.specs.declared.rows.Term.{Term}
-use Rattle.program.specs.Building.{lines_from}
+use Rattle.program.specs.Building.{blank_row, lines_from}
+use Rattle.interpreter.specs.Places.{expression_at}
 use Rattle.typing.specs.Labels.{Labels, labels_of}
+use Rattle.typing.specs.Rule.{raised}
+use Rattle.label_check.specs.declared.check.Check.{Check}
+use Rattle.label_check.specs.declared.check.Leak.{Leak}
 use Rattle.label_check.specs.declared.table.Table.{Table}
+use Rattle.label_check.specs.Joins.{entry}
 use Rattle.label_check.specs.Rows.{leak}
-
-abbrev pub entry : List (List ℕ) → ℕ → ℕ → ℕ
-entry joins a b = slice_index (slice_index_or joins a []) b
 
 -- a is at or below b if their join is b
 abbrev pub levels_in : Table → Levels
@@ -19,46 +23,55 @@ levels_in t = record { count = 16; below = λ a b. (entry t.joins a b == b); low
 abbrev pub labels_in : Table → Labels
 labels_in t = labels_of (levels_in t) t.sheet
 
--- 16 rows of 16 joins, and all that is read is below 16
-pub record Ready (t : Table) : Type 0 where
-  pub tall : length t.joins ≡ 16
-  pub wide : (k : ℕ) → k < 16 → length (slice_index_or t.joins k []) ≡ 16
-  pub low : t.lowest < 16
-  pub small : (a b : ℕ) → a < 16 → b < 16 → entry t.joins a b < 16
-  pub channel : (c : ℕ) → channel_level t.sheet c < 16
-  pub variable : (v : ℕ) → slice_index t.sheet.variables v < 16
+-- the table was copied from a scheme that has every level of its sheet
+pub record Copied (L : Levels) (t : Table) : Type 0 where
+  pub lowest : t.lowest ≡ L.lowest
+  pub joins : (a b : ℕ) → a < L.count → b < L.count → entry t.joins a b ≡ L.join a b
+  pub has : has_sheet L t.sheet ≡ true
 
--- the table has the joins of the levels below n with all, and of n with the levels below m
-pub record Filled (L : Levels) (joins : List (List ℕ)) (n m : ℕ) : Type 0 where
-  pub tall : length joins ≡ 16
-  pub wide : (k : ℕ) → k < 16 → length (slice_index_or joins k []) ≡ 16
-  pub small : (a b : ℕ) → a < 16 → b < 16 → entry joins a b < 16
-  pub rows : (a b : ℕ) → a < n → b < L.count → entry joins a b ≡ L.join a b
-  pub row : (k : ℕ) → k < m → entry joins n k ≡ L.join n k
+-- with this sheet, or refused as the sheet is
+abbrev pub Copies : Levels → LevelSheet → Result Table Fault → Type 0
+Copies L sheet (Ok t) = Copied L t × (t.sheet ≡ sheet)
+Copies L sheet (Err f) = checked L sheet ≡ Err f
 
 -- the first row that breaks the rule, at or behind a row
 abbrev pub onward : Labels → List Row → List Term → ℕ → List ℕ → ℕ → Option ℕ
 onward labels rows terms x gs at = leak labels x gs at (lines_from (drop at rows) terms)
 
+-- the row that a check found, if any
+abbrev pub found : Result (Unit {0}) Leak → Option ℕ
+found (Ok u) = None
+found (Err l) = Some l.row
+
 -- a row that breaks the rule was found, or the check goes on at a row
-abbrev pub resume : Result ℕ ℕ → (ℕ → Option ℕ) → Option ℕ
+abbrev pub resume : Result ℕ Leak → (ℕ → Option ℕ) → Option ℕ
 resume (Ok at) go = go at
-resume (Err at) go = Some at
+resume (Err l) go = Some l.row
+
+-- what row i tells its target, where pc is the program counter level
+abbrev pub told : Check → ℕ → ℕ → ℕ → Result ℕ Leak
+told c pc target i =
+    let labels = labels_in c.table.now in
+    let r = slice_index_or c.program.rows.now i blank_row in
+    cond (labels.scheme.below (raised labels c.input.number pc (expression_at c.program.terms.now r)) target) (Ok (i + 1)) (Err (record { row = i }))
+
+abbrev pub onward_in : Check → List ℕ → ℕ → Option ℕ
+onward_in c = onward (labels_in c.table.now) c.program.rows.now c.program.terms.now c.input.number
 
 -- r tells of what is left of a block, from a row on: the first row that breaks the rule, or where the check goes on on the grounds around it, whatever they are
-abbrev pub ChecksBlock : Labels → List Row → List Term → ℕ → ℕ → ℕ → Result ℕ ℕ → Type 0
-ChecksBlock labels rows terms x surrounding from r = (gs : List ℕ) → onward labels rows terms x (surrounding ∷ gs) from ≡ resume r (onward labels rows terms x gs)
+abbrev pub ChecksBlock : Check → ℕ → ℕ → Result ℕ Leak → Type 0
+ChecksBlock c pc from r = (gs : List ℕ) → onward_in c (pc ∷ gs) from ≡ resume r (onward_in c gs)
 
 -- and of a row, with the block that it opens
-abbrev pub ChecksRow : Labels → List Row → List Term → ℕ → ℕ → ℕ → Result ℕ ℕ → Type 0
-ChecksRow labels rows terms x surrounding at r = (gs : List ℕ) → onward labels rows terms x (surrounding ∷ gs) at ≡ resume r (onward labels rows terms x (surrounding ∷ gs))
+abbrev pub ChecksRow : Check → ℕ → ℕ → Result ℕ Leak → Type 0
+ChecksRow c pc i r = (gs : List ℕ) → onward_in c (pc ∷ gs) i ≡ resume r (onward_in c (pc ∷ gs))
 
 -- the check goes on no earlier than a row, and finds none behind the end
-abbrev pub Onward : ℕ → ℕ → Result ℕ ℕ → Type 0
+abbrev pub Onward : ℕ → ℕ → Result ℕ Leak → Type 0
 Onward from end (Ok at) = (from ≤ at) × (at ≤ end)
-Onward from end (Err at) = at < end
+Onward from end (Err l) = l.row < end
 
 -- a row before the end, if any
-abbrev pub Among : ℕ → Option ℕ → Type 0
-Among end None = Unit {0}
-Among end (Some at) = at < end
+abbrev pub Among : ℕ → Result (Unit {0}) Leak → Type 0
+Among end (Ok u) = Unit {0}
+Among end (Err l) = l.row < end

@@ -48,5 +48,5 @@ module _ (a b : ℕ) (some : 0 < b) where
       (λ e. lower_nearest (ltb-true _ _ e))
       (λ e. cond_both (ltb (lower a b + b) (2 ^ 32)) (lower a b + b) (lower a b) (Nearest a b) (λ _. upper_nearest (ltb-false _ _ e)) (λ f. last_nearest (ltb-false _ _ f))))
 
-pub rounds : (a b : ℕ) → Rounds a b (rounded a b)
-rounds a b = (λ e. cond-true _ _ _ (eq-eqb b 0 e), λ some. rounded_nearest a b some)
+pub rounds : (a b r : ℕ) → r ≡ rounded a b → Rounds a b r
+rounds a b r e = rw e (λ z. cond-true _ _ _ (eq-eqb b 0 z), λ some. rounded_nearest a b some)

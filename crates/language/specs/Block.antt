@@ -10,6 +10,7 @@ pub data Block : Type 0 where
   output : ℕ → Expr → Block → Block
   branch : Bool → Expr → Block → Block → Block → Block
   repeat : Expr → Block → Block → Block
+  deriving IsSet as Block-set
 
 infixr 60 ◌⨟◌
 -- a block, and then another

@@ -8,6 +8,7 @@ pub data Expr : Type 0 where
   constant : ℕ → Expr
   variable : ℕ → Expr
   binary : Operator → Expr → Expr → Expr
+  deriving IsSet as Expr-set
 
 -- the value where the ticket's value is x
 abbrev pub value : ℕ → List ℕ → Expr → ℕ

@@ -1,5 +1,5 @@
 -- The operators of expressions, on values of 32 bits. Assumes nothing.
-use Rattle.std.specs.Prelude.{◌≡◌, ℕ, ◌+◌, ◌-◌, ◌*◌, ◌/◌, ◌%◌, ◌^◌, ◌<◌, ◌≤◌, cond, ◌==◌, nat_lt}
+use Rattle.std.specs.Prelude.{◌≡◌, ℕ, ◌+◌, ◌-◌, ◌*◌, ◌/◌, ◌%◌, ◌^◌, ◌<◌, ◌≤◌, cond, Some, None, Option, ◌==◌, nat_lt}
 use Rattle.language.specs.declared.Operator.{Operator}
 use Rattle.language.specs.declared.Operator.TheVariants.{Plus, Minus, Times, Equal, Less, Round}
 
@@ -21,6 +21,16 @@ applied Times a b = (a * b) % 2 ^ 32
 applied Equal a b = cond (a == b) 1 0
 applied Less a b = cond (nat_lt a b) 1 0
 applied Round a b = rounded a b
+
+-- the operator that a character writes: + - * = < r
+abbrev pub operator_of : ℕ → Option Operator
+operator_of c =
+    cond (c == 43) (Some Plus)
+    (cond (c == 45) (Some Minus)
+    (cond (c == 42) (Some Times)
+    (cond (c == 61) (Some Equal)
+    (cond (c == 60) (Some Less)
+    (cond (c == 114) (Some Round) None)))))
 
 -- how far apart two values are
 abbrev pub distance : ℕ → ℕ → ℕ

@@ -2,8 +2,9 @@
 #![tactic(auto)]
 
 ghost use Rattle.std.specs.Prelude.{◌≡◌};
+ghost use Rattle.std.specs.Result.{result_ok};
 ghost use Rattle.language.specs.Laws.{RunIsIteratedStep, StallsOnlyWhenSpent};
-ghost use Rattle.language.specs.Operators.{rounded, applied, Rounds};
+ghost use Rattle.language.specs.Operators.{rounded, applied, operator_of, Rounds};
 
 #[derive(Clone, Copy, PartialEq, Eq, Debug)]
 pub enum Operator {
@@ -31,6 +32,28 @@ impl Operator {
     }
 }
 
+// A character that writes no operator.
+#[derive(Clone, Copy, PartialEq, Eq, Debug)]
+pub struct NotAnOperator;
+
+impl TryFrom<char> for Operator {
+    type Error = NotAnOperator;
+
+    ghost try_from_gives = { λ c r. result_ok r ≡ operator_of c };
+
+    fn try_from(c: char) -> Result<Operator, NotAnOperator> {
+        match c {
+            '+' => Ok(Operator::Plus),
+            '-' => Ok(Operator::Minus),
+            '*' => Ok(Operator::Times),
+            '=' => Ok(Operator::Equal),
+            '<' => Ok(Operator::Less),
+            'r' => Ok(Operator::Round),
+            _ => Err(NotAnOperator),
+        }
+    }
+}
+
 // To the nearest multiple, a half upward; past the largest value the lower one. No multiple of 0 is tried.
 pub fn round(value: u32, unit: u32) -> u32
     ensures value { result ≡ rounded value unit }
@@ -44,18 +67,17 @@ pub fn round(value: u32, unit: u32) -> u32
     if over < unit - over {
         return below;
     }
-    match below.checked_add(unit) {
-        Some(above) => above,
-        None => below,
-    }
+    below.checked_add(unit).unwrap_or(below)
 }
 
 // A theorem: telling a run by blocks is iterating the step of commands.
+#[tactic(auto, using(crate::proofs::Blocks::run_is_iterated_step))]
 pub fn run_is_iterated_step()
     ensures { RunIsIteratedStep }
 {}
 
 // A theorem: no reaction stalls with a step and a ticket left, or takes more steps than it is allowed.
+#[tactic(auto, using(crate::proofs::Stalls::stalls_only_when_spent))]
 pub fn stalls_only_when_spent()
     ensures { StallsOnlyWhenSpent }
 {}

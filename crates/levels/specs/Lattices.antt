@@ -1,6 +1,7 @@
 -- What follows from the laws of a scheme. Assumes nothing.
 use Rattle.std.proofs.Common.{◌≡◌, ℕ, ◌<◌, Bool, true, false, cond, Some, None, sym, refl, ◌∙◌, arith}
 use Rattle.std.proofs.lemmas.Bool.{and_parts, ltb-true, lt-ltb}
+use Rattle.std.proofs.lemmas.Option.{cond_some}
 use Rattle.levels.specs.Scheme.{Levels, Below, Lattice, OrderDeterminesScheme, join_of}
 
 module _ {L : Levels} (laws : Lattice L) where
@@ -14,12 +15,8 @@ module _ {L : Levels} (laws : Lattice L) where
 pub join_some : (L : Levels) (a b : ℕ) → a < L.count → b < L.count → join_of L a b ≡ Some (L.join a b)
 join_some L a b ha hb = rw (lt-ltb a L.count ha, lt-ltb b L.count hb)
 
-pub cond_some : {X : Type 0} (t : Bool) (x y : X) → cond t (Some x) None ≡ Some y → (t ≡ true) × (x ≡ y)
-cond_some true x y e = (refl, cc)
-cond_some false x y e = let z : ◌≡◌ {A = ℕ} 0 1 = cc in absurd (omega arith)
-
 pub cond_none : {X : Type 0} (t : Bool) (x : X) → cond t (Some x) None ≡ None → t ≡ false
-cond_none true x e = let z : ◌≡◌ {A = ℕ} 0 1 = cc in absurd (omega arith)
+cond_none true x e = cc
 cond_none false x e = refl
 
 pub some_join : (L : Levels) (a b j : ℕ) → join_of L a b ≡ Some j → (a < L.count) × (b < L.count) × (L.join a b ≡ j)
@@ -28,12 +25,8 @@ some_join L a b j e =
     let q = and_parts _ _ p.0 in
     (ltb-true _ _ q.0, ltb-true _ _ q.1, p.1)
 
--- a join is a level
-pub join_answer : {L : Levels} → Lattice L → (a b j : ℕ) → join_of L a b ≡ Some j → j < L.count
-join_answer {L} laws a b j e = let p = some_join L a b j e in rw p.2 at (join_level laws a b p.0 p.1)
-
 pub never_none : {L : Levels} → Lattice L → (a b : ℕ) → a < L.count → b < L.count → join_of L a b ≡ None → ⊥
-never_none {L} laws a b ha hb e = let p = join_some L a b ha hb in let z : ◌≡◌ {A = ℕ} 0 1 = cc in omega arith
+never_none {L} laws a b ha hb e = let p = join_some L a b ha hb in cc
 
 module _ (K L : Levels) (lk : Lattice K) (ll : Lattice L) (ec : K.count ≡ L.count) (eb : (a b : ℕ) → K.below a b ≡ L.below a b) where
   to : (a b : ℕ) → Below L a b → Below K a b

@@ -8,7 +8,7 @@ ghost use Rattle.levels.specs.Products.{chain_lawful};
 use super::Scheme;
 use fault::{Fault, Reason};
 
-#[derive(Clone, Copy)]
+#[derive(Clone, Copy, PartialEq, Eq, Debug)]
 pub struct Chain {
     count: u8,
     ghost sized: { (1 ≤ count) × (count ≤ 16) },
@@ -28,20 +28,6 @@ impl Chain {
 
 impl Scheme for Chain {
     ghost levels = { λ s. chain s.count };
-
-    ghost sized = { λ s. (chain_lawful s.count s.sized.0 s.sized.1).sized };
-
-    ghost proper = { λ s. (chain_lawful s.count s.sized.0 s.sized.1).proper };
-
-    ghost reflexive = { λ s. (chain_lawful s.count s.sized.0 s.sized.1).reflexive };
-
-    ghost antisymmetric = { λ s. (chain_lawful s.count s.sized.0 s.sized.1).antisymmetric };
-
-    ghost transitive = { λ s. (chain_lawful s.count s.sized.0 s.sized.1).transitive };
-
-    ghost bottom = { λ s. (chain_lawful s.count s.sized.0 s.sized.1).bottom };
-
-    ghost joins = { λ s. (chain_lawful s.count s.sized.0 s.sized.1).joins };
 
     ghost lattice = { λ s. chain_lawful s.count s.sized.0 s.sized.1 };
 

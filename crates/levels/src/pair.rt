@@ -7,96 +7,69 @@ ghost use Rattle.levels.specs.Products.{pair_lawful};
 
 use super::Scheme;
 use fault::{Fault, Reason};
+use std::alloc::AllocError;
 
-#[derive(Clone, Copy)]
-pub struct Pair<P, Q> {
+#[derive(PartialEq, Eq, Debug)]
+pub struct Pair<P: Scheme, Q: Scheme> {
     left: P,
     right: Q,
+    ghost small: { is_pair (P.levels left) (Q.levels right) ≡ true },
 }
+
+// By hand: Clone cannot be derived for a generic struct with a ghost field.
+impl<P: Scheme, Q: Scheme> Clone for Pair<P, Q> {
+    ghost is_clone = { λ s r. r ≡ s };
+
+    fn clone(&self) -> Result<Pair<P, Q>, AllocError> {
+        Ok(*self)
+    }
+}
+
+impl<P: Scheme, Q: Scheme> Copy for Pair<P, Q> {}
 
 impl<P: Scheme, Q: Scheme> Pair<P, Q> {
     pub fn new(left: P, right: Q) -> Result<Pair<P, Q>, Fault>
-        ensures { Accepts (is_pair (P.Scheme.levels left) (Q.Scheme.levels right)) (λ p. (p.left ≡ left) × (p.right ≡ right)) reason.Level result }
+        ensures { Accepts (is_pair (P.levels left) (Q.levels right)) (λ p. (p.left ≡ left) × (p.right ≡ right)) reason.Level result }
     {
-        let pair = Pair { left, right };
-        if pair.is_small() {
-            Ok(pair)
+        if left.count() as u16 * right.count() as u16 <= 16 {
+            Ok(Pair { left, right })
         } else {
             Err(Fault::unplaced(Reason::Level))
         }
     }
 
-    fn is_small(&self) -> bool
-        ensures { result ≡ is_pair (P.Scheme.levels self.now.left) (Q.Scheme.levels self.now.right) }
-    {
-        self.left.count() as u16 * self.right.count() as u16 <= 16
-    }
-
     // The level whose parts are p and q.
     fn level(&self, p: u8, q: u8) -> u8
-        requires small { is_pair (P.Scheme.levels self.now.left) (Q.Scheme.levels self.now.right) ≡ true }
-        requires left { p < (P.Scheme.levels self.now.left).count }
-        requires right { q < (Q.Scheme.levels self.now.right).count }
-        ensures { result ≡ p * (Q.Scheme.levels self.now.right).count + q }
+        requires left { p < (P.levels self.now.left).count }
+        requires right { q < (Q.levels self.now.right).count }
+        ensures { result ≡ p * (Q.levels self.now.right).count + q }
     {
         p * self.right.count() + q
     }
 }
 
 impl<P: Scheme, Q: Scheme> Scheme for Pair<P, Q> {
-    ghost levels = { λ s. pair (P.Scheme.levels s.left) (Q.Scheme.levels s.right) };
+    ghost levels = { λ s. pair (P.levels s.left) (Q.levels s.right) };
 
-    ghost sized = { λ s. (pair_lawful (P.Scheme.lattice s.left) (Q.Scheme.lattice s.right)).sized };
-
-    ghost proper = { λ s. (pair_lawful (P.Scheme.lattice s.left) (Q.Scheme.lattice s.right)).proper };
-
-    ghost reflexive = { λ s. (pair_lawful (P.Scheme.lattice s.left) (Q.Scheme.lattice s.right)).reflexive };
-
-    ghost antisymmetric = { λ s. (pair_lawful (P.Scheme.lattice s.left) (Q.Scheme.lattice s.right)).antisymmetric };
-
-    ghost transitive = { λ s. (pair_lawful (P.Scheme.lattice s.left) (Q.Scheme.lattice s.right)).transitive };
-
-    ghost bottom = { λ s. (pair_lawful (P.Scheme.lattice s.left) (Q.Scheme.lattice s.right)).bottom };
-
-    ghost joins = { λ s. (pair_lawful (P.Scheme.lattice s.left) (Q.Scheme.lattice s.right)).joins };
-
-    ghost lattice = { λ s. pair_lawful (P.Scheme.lattice s.left) (Q.Scheme.lattice s.right) };
+    ghost lattice = { λ s. pair_lawful (P.lattice s.left) (Q.lattice s.right) };
 
     fn count(&self) -> u8 {
-        if self.is_small() {
-            self.left.count() * self.right.count()
-        } else {
-            1
-        }
+        self.left.count() * self.right.count()
     }
 
     fn lowest(&self) -> u8 {
-        if self.is_small() {
-            self.level(self.left.lowest(), self.right.lowest())
-        } else {
-            0
-        }
+        self.level(self.left.lowest(), self.right.lowest())
     }
 
     fn at_or_below(&self, m: u8, n: u8) -> bool {
         let b = self.right.count();
-        if self.is_small() {
-            self.left.at_or_below(m / b, n / b) && self.right.at_or_below(m % b, n % b)
-        } else {
-            m == 0 && n == 0
-        }
+        self.left.at_or_below(m / b, n / b) && self.right.at_or_below(m % b, n % b)
     }
 
     fn join(&self, m: u8, n: u8) -> Option<u8> {
         let b = self.right.count();
-        if self.is_small() {
-            let p = self.left.join(m / b, n / b)?;
-            let q = self.right.join(m % b, n % b)?;
-            Some(self.level(p, q))
-        } else if m == 0 && n == 0 {
-            Some(0)
-        } else {
-            None
-        }
+        let p = self.left.join(m / b, n / b)?;
+        let q = self.right.join(m % b, n % b)?;
+        Some(self.level(p, q))
     }
 }

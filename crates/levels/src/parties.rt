@@ -8,7 +8,7 @@ ghost use Rattle.levels.specs.Subsets.{parties_lawful};
 use super::Scheme;
 use fault::{Fault, Reason};
 
-#[derive(Clone, Copy)]
+#[derive(Clone, Copy, PartialEq, Eq, Debug)]
 pub struct Parties {
     number: u8,
     ghost few: { number ≤ 4 },
@@ -28,20 +28,6 @@ impl Parties {
 
 impl Scheme for Parties {
     ghost levels = { λ s. parties s.number };
-
-    ghost sized = { λ s. (parties_lawful s.number s.few).sized };
-
-    ghost proper = { λ s. (parties_lawful s.number s.few).proper };
-
-    ghost reflexive = { λ s. (parties_lawful s.number s.few).reflexive };
-
-    ghost antisymmetric = { λ s. (parties_lawful s.number s.few).antisymmetric };
-
-    ghost transitive = { λ s. (parties_lawful s.number s.few).transitive };
-
-    ghost bottom = { λ s. (parties_lawful s.number s.few).bottom };
-
-    ghost joins = { λ s. (parties_lawful s.number s.few).joins };
 
     ghost lattice = { λ s. parties_lawful s.number s.few };
 

@@ -18,25 +18,26 @@ pub trait Scheme: Copy {
     fn join(&self, a: u8, b: u8) -> Option<u8>
         ensures { result ≡ join_of (levels self.now) a b };
 
-    ghost sized: { (s : Self) → Sized (levels s) };
-
-    ghost proper: { (s : Self) → Proper (levels s) };
-
-    ghost reflexive: { (s : Self) → Reflexive (levels s) };
-
-    ghost antisymmetric: { (s : Self) → Antisymmetric (levels s) };
-
-    ghost transitive: { (s : Self) → Transitive (levels s) };
-
-    ghost bottom: { (s : Self) → Bottom (levels s) };
-
-    ghost joins: { (s : Self) → Joins (levels s) };
-
-    // All of them as one record, which lemmas take.
+    // All the laws as one record, which an impl gives and lemmas take.
     ghost lattice: { (s : Self) → Lattice (levels s) };
+
+    ghost sized: { (s : Self) → Sized (levels s) } = { λ s. (lattice s).sized };
+
+    ghost proper: { (s : Self) → Proper (levels s) } = { λ s. (lattice s).proper };
+
+    ghost reflexive: { (s : Self) → Reflexive (levels s) } = { λ s. (lattice s).reflexive };
+
+    ghost antisymmetric: { (s : Self) → Antisymmetric (levels s) } = { λ s. (lattice s).antisymmetric };
+
+    ghost transitive: { (s : Self) → Transitive (levels s) } = { λ s. (lattice s).transitive };
+
+    ghost bottom: { (s : Self) → Bottom (levels s) } = { λ s. (lattice s).bottom };
+
+    ghost joins: { (s : Self) → Joins (levels s) } = { λ s. (lattice s).joins };
 }
 
 // A theorem: the count and the order of a scheme leave one choice for its lowest level and its joins.
+#[tactic(auto, using(crate::specs::Lattices::order_determines_scheme))]
 pub fn order_determines_scheme()
     ensures { OrderDeterminesScheme }
 {}

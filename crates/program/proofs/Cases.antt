@@ -1,5 +1,5 @@
 -- What a value says of the test before it. Assumes nothing.
-use Rattle.std.proofs.Common.{◌≡◌, ℕ, Bool, true, false, cond, refl, arith}
+use Rattle.std.proofs.Common.{◌≡◌, Bool, true, false, cond, refl}
 
 pub split : {A : Type 0} {P : Type 0} (b : Bool) (x y v : A) → cond b x y ≡ v → (b ≡ true → x ≡ v → P) → (b ≡ false → y ≡ v → P) → P
 split true x y v e f g = f refl e
@@ -8,4 +8,9 @@ split false x y v e f g = g refl e
 -- a test that holds only where another does
 pub both_true : (a b : Bool) → cond a b false ≡ true → (a ≡ true) × (b ≡ true)
 both_true true b e = (refl, e)
-both_true false b e = let z : ◌≡◌ {A = ℕ} 0 1 = cc in absurd (omega arith)
+both_true false b e = cc
+
+-- a test that decides nothing
+pub neither : (b : Bool) → cond b false false ≡ false
+neither true = refl
+neither false = refl

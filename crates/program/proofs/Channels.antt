@@ -1,5 +1,7 @@
 -- Lines that are put one after the other have one handler a channel. Assumes nothing.
-use Rattle.std.proofs.Common.{◌≡◌, ℕ, zero, suc, true, false, cond, eqb, List, [], ◌∷◌, ◌++◌, length, sym, refl, ap, ◌∙◌, subst, ⊎_elim}
+use Rattle.std.proofs.Common.{◌≡◌, ℕ, zero, suc, false, ◌||◌, eqb, List, [], ◌∷◌, ◌++◌, length, sym, refl, ap, ◌∙◌, subst, ⊎_elim}
+use Rattle.std.proofs.Math.Bool.{or_comm}
+use Rattle.std.proofs.lemmas.List.Folds.{list_any-append}
 use Rattle.language.specs.Block.{Block, Tree}
 use Rattle.program.specs.declared.rows.Kind.{Kind}
 use Rattle.program.specs.declared.rows.Kind.TheVariants as kind
@@ -8,27 +10,27 @@ use Rattle.program.specs.Lines.{Line}
 use Rattle.program.specs.Building.{Tables, linked_at, is_handler_of, has_handler, is_twice}
 use Rattle.program.specs.Trees.{frames, here, handled, program_of}
 use Rattle.program.specs.Writing.{row, is_listed, Once}
-use Rattle.program.proofs.Flattening.{Channels, handler_append, cond_or}
+use Rattle.program.proofs.Flattening.{Channels}
 use Rattle.program.proofs.Runs.{Runs}
 use Rattle.program.proofs.Tables.{Same, nested_same, build_ok}
 
 handler_linked : (c : ℕ) (rows : List Row) (o j : ℕ) → has_handler c (linked_at rows o j) ≡ has_handler c rows
 handler_linked c [] o j = refl
 handler_linked c (r ∷ rs) zero j = refl
-handler_linked c (r ∷ rs) (suc o) j = ap (λ b. cond (is_handler_of c r.kind) true b) (handler_linked c rs o j)
+handler_linked c (r ∷ rs) (suc o) j = ap (λ b. is_handler_of c r.kind || b) (handler_linked c rs o j)
 
 handler_same : (c : ℕ) (rows after : List Row) → Same rows after → has_handler c after ≡ has_handler c rows
 handler_same c rows after s = ⊎_elim (λ e. ap (has_handler c) e) (λ h. ap (has_handler c) h.2 ∙ handler_linked c rows h.0 h.1) s
 
 module _ (rows after : List Row) (cs : List ℕ) (known : Channels rows cs) (same : Same rows after) where
-  pushed : (r : Row) (c : ℕ) → has_handler c (after ++ r ∷ []) ≡ cond (is_listed c cs) true (cond (is_handler_of c r.kind) true false)
-  pushed r c = handler_append c after (r ∷ []) ∙ ap (λ b. cond b true (cond (is_handler_of c r.kind) true false)) (handler_same c rows after same ∙ known c)
+  pushed : (r : Row) (c : ℕ) → has_handler c (after ++ r ∷ []) ≡ (is_listed c cs || (is_handler_of c r.kind || false))
+  pushed r c = list_any-append (λ (q : Row). is_handler_of c q.kind) after (r ∷ []) ∙ ap (λ b. b || (is_handler_of c r.kind || false)) (handler_same c rows after same ∙ known c)
 
   kept : (r : Row) → ((c : ℕ) → is_handler_of c r.kind ≡ false) → Channels (after ++ r ∷ []) cs
-  kept r none c = pushed r c ∙ ap (λ b. cond (is_listed c cs) true (cond b true false)) (none c) ∙ cond_or (is_listed c cs) false
+  kept r none c = pushed r c ∙ ap (λ b. is_listed c cs || (b || false)) (none c) ∙ or_comm (is_listed c cs) false
 
   begun : (d f n p : ℕ) → Channels (after ++ row (kind.Handler d) f n p ∷ []) (d ∷ cs)
-  begun d f n p c = pushed (row (kind.Handler d) f n p) c ∙ ap (λ b. cond (is_listed c cs) true b) (cond_or (eqb c d) false) ∙ cond_or (is_listed c cs) (eqb c d)
+  begun d f n p c = pushed (row (kind.Handler d) f n p) c ∙ ap (λ b. is_listed c cs || b) (or_comm (eqb c d) false) ∙ or_comm (is_listed c cs) (eqb c d)
 
   once_line : (k : Kind) (f n p : ℕ) (b : Block) (q : Tree) → is_twice k rows ≡ false → ((ds : List ℕ) → Channels (after ++ row k f n p ∷ []) ds → Once ds q) → Once cs (handled k b q)
   once_line kind.Skip f n p b q w h = h cs (kept _ (λ c. refl))

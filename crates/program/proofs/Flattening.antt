@@ -1,7 +1,9 @@
 -- The lines of a program lead to its flat form. Assumes nothing.
-use Rattle.std.proofs.Common.{◌≡◌, ℕ, ◌+◌, ◌-◌, ◌<◌, ◌≤◌, Bool, true, false, cond, eqb, leb, List, [], ◌∷◌, ◌++◌, length, get_or, Some, None, sym, refl, ap, ◌∙◌, subst, append_assoc, append-nil, arith, length-append}
+use Rattle.std.proofs.Common.{◌≡◌, ℕ, ◌+◌, ◌-◌, ◌<◌, ◌≤◌, true, false, cond, ◌||◌, eqb, leb, List, [], ◌∷◌, ◌++◌, length, get_or, Some, None, sym, refl, ap, ◌∙◌, subst, append_assoc, append-nil, arith, length-append}
 use Rattle.std.proofs.lemmas.List.{length_push, get_or_at, set_at}
 use Rattle.std.proofs.lemmas.Bool.{le-leb, lt-leb}
+use Rattle.std.proofs.lemmas.List.Folds.{list_any-append}
+use Rattle.std.proofs.Math.Bool.{or_comm}
 use Rattle.std.specs.List.{AllByRecursion}
 use Rattle.language.specs.Block.{Block, done, skip, assign, output, branch, repeat, Tree}
 use Rattle.language.specs.Expression.{Expr}
@@ -363,22 +365,8 @@ block_runs d (repeat e p k) rows terms o os fit deep a b =
 abbrev pub Channels : List Row → List ℕ → Type 0
 Channels rows cs = (c : ℕ) → has_handler c rows ≡ is_listed c cs
 
-pub cond_or : (a b : Bool) → cond a true b ≡ cond b true a
-cond_or true true = refl
-cond_or true false = refl
-cond_or false true = refl
-cond_or false false = refl
-
-cond_assoc : (a b c : Bool) → cond (cond a true b) true c ≡ cond a true (cond b true c)
-cond_assoc true b c = refl
-cond_assoc false b c = refl
-
-pub handler_append : (c : ℕ) (xs ys : List Row) → has_handler c (xs ++ ys) ≡ cond (has_handler c xs) true (has_handler c ys)
-handler_append c [] ys = refl
-handler_append c (x ∷ xs) ys = ap (λ b. cond (is_handler_of c x.kind) true b) (handler_append c xs ys) ∙ sym (cond_assoc (is_handler_of c x.kind) (has_handler c xs) (has_handler c ys))
-
 none_append : (c : ℕ) (xs ys : List Row) → has_handler c xs ≡ false → has_handler c ys ≡ false → has_handler c (xs ++ ys) ≡ false
-none_append c xs ys e f = handler_append c xs ys ∙ ap (λ b. cond b true (has_handler c ys)) e ∙ f
+none_append c xs ys e f = list_any-append (λ (r : Row). is_handler_of c r.kind) xs ys ∙ ap (λ b. b || has_handler c ys) e ∙ f
 
 block_has_none : (c j u : ℕ) (b : Block) → has_handler c (block_rows j u b) ≡ false
 block_has_none c j u done = refl
@@ -394,11 +382,11 @@ block_has_none c j u (repeat e p k) = none_append c (block_rows (j + 1) (u + len
 one_more_channel : (rows : List Row) (cs : List ℕ) (d f n p j u v : ℕ) (b : Block) → Channels rows cs → Channels (rows ++ row (kind.Handler d) f n p ∷ (block_rows j u b ++ row kind.Close v 0 0 ∷ [])) (d ∷ cs)
 one_more_channel rows cs d f n p j u v b h c =
     let none = none_append c (block_rows j u b) (row kind.Close v 0 0 ∷ []) (block_has_none c j u b) refl in
-    handler_append c rows (row (kind.Handler d) f n p ∷ (block_rows j u b ++ row kind.Close v 0 0 ∷ []))
-    ∙ ap (λ x. cond x true (cond (eqb c d) true (has_handler c (block_rows j u b ++ row kind.Close v 0 0 ∷ [])))) (h c)
-    ∙ ap (λ x. cond (is_listed c cs) true (cond (eqb c d) true x)) none
-    ∙ ap (λ x. cond (is_listed c cs) true x) (cond_or (eqb c d) false)
-    ∙ cond_or (is_listed c cs) (eqb c d)
+    list_any-append (λ (r : Row). is_handler_of c r.kind) rows (row (kind.Handler d) f n p ∷ (block_rows j u b ++ row kind.Close v 0 0 ∷ []))
+    ∙ ap (λ x. x || (eqb c d || has_handler c (block_rows j u b ++ row kind.Close v 0 0 ∷ []))) (h c)
+    ∙ ap (λ x. is_listed c cs || (eqb c d || x)) none
+    ∙ ap (λ x. is_listed c cs || x) (or_comm (eqb c d) false)
+    ∙ or_comm (is_listed c cs) (eqb c d)
 
 tree_runs : (hs : Tree) (cs : List ℕ) (rows : List Row) (terms : List Term) → AllByRecursion FitHandler hs → Once cs hs → Channels rows cs → length rows + length (lines_of hs) ≤ 128 → length terms + length (all_terms (lines_of hs)) ≤ 512 → Runs (tables rows terms []) (lines_of hs) (tables (rows ++ tree_rows (length rows) (length terms) hs) (terms ++ all_terms (lines_of hs)) [])
 tree_runs [] cs rows terms fit once known a b = sym (same_tables _ _ _ _ [] (append-nil rows) (append-nil terms))

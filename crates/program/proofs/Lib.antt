@@ -1,4 +1,3 @@
-pub mod Adding
 pub mod Cases
 pub mod Channels
 pub mod Collecting

@@ -1,5 +1,5 @@
 -- A line is read exactly as it is written. Assumes nothing.
-use Rattle.std.proofs.Common.{◌≡◌, ℕ, ◌+◌, ◌^◌, ◌<◌, ◌≤◌, true, eqb, List, [], ◌∷◌, ◌++◌, map, length, Ok, Err, decimal, Result, sym, refl, ap, ◌∙◌, subst, append-nil, arith}
+use Rattle.std.proofs.Common.{◌≡◌, ℕ, ◌+◌, ◌^◌, ◌<◌, ◌≤◌, true, eqb, List, [], ◌∷◌, ◌++◌, map, length, Ok, decimal, Result, sym, refl, ap, ◌∙◌, subst, append-nil, arith}
 use Rattle.std.proofs.lemmas.Bool.{eqb-true}
 use Rattle.std.specs.List.{AllByRecursion}
 use Rattle.fault.specs.declared.Fault.{Fault}
@@ -9,7 +9,6 @@ use Rattle.language.specs.declared.Operator as language
 use Rattle.language.specs.declared.Operator.TheVariants.{Plus, Minus, Times, Equal, Less, Round}
 use Rattle.text.specs.Lines.{all_printable}
 use Rattle.text.specs.Pieces.{pieces, joined}
-use Rattle.text.specs.Places.{letter_at}
 use Rattle.text.specs.Reading.{tail_of, read_letter, read_number, read_end}
 use Rattle.text.proofs.Cutting.{Free, pieces_rejoin, joined_pieces_part}
 use Rattle.text.proofs.Decimals.{decimal_is_digits}
@@ -60,9 +59,6 @@ alone_back n kind fs l e =
 pair_eq : (x y : ℕ × List Term) → ◌≡◌ {A = Result (ℕ × List Term) Fault} (Ok x) (Ok y) → x ≡ y
 pair_eq x y e = cc
 
-no_letter : {P : Type 0} (n c : ℕ) (fs : List (List ℕ)) (l : Line) → ◌≡◌ {A = Result Line Fault} (Err (letter_at n)) (Ok l) → P
-no_letter n c fs l e = let z : ◌≡◌ {A = ℕ} 0 1 = cc in absurd (omega arith)
-
 tested_back : (n : ℕ) (kind : Kind) (fs : List (List ℕ)) (l : Line) → tested n kind fs ≡ Ok l → (ts : List Term) × (fs ≡ map term_bytes ts) × Expression ts × ((kind, ts) ≡ l)
 tested_back n kind fs l e =
     let x = then_ok (whole_from n 2 fs) (λ ts. Ok (kind, ts)) l e in
@@ -107,7 +103,7 @@ letters_back n c fs l e =
     split (eqb c 87) _ _ (Ok l) e (λ t h. let x = tested_back n While fs l h in told c fs (While, x.0) l (eqb-true c 87 t) x.3 x.1 x.2) (λ _ e.
     split (eqb c 69) _ _ (Ok l) e (λ t h. by_alone n c Else fs l (eqb-true c 69 t) refl refl h) (λ _ e.
     split (eqb c 88) _ _ (Ok l) e (λ t h. by_alone n c Close fs l (eqb-true c 88 t) refl refl h) (λ _ h.
-    no_letter n c fs l h))))))))
+    cc))))))))
 
 line_back : (n : ℕ) (fs : List (List ℕ)) (l : Line) → line_in n fs ≡ Ok l → (fs ≡ fields_of l) × FitLine l
 line_back n fs l e =

@@ -12,7 +12,7 @@ use Rattle.program.specs.Writing.{row}
 use Rattle.program.proofs.Cases.{split}
 use Rattle.program.proofs.Ordering.{Moves, Ordered}
 use Rattle.program.proofs.Runs.{Runs}
-use Rattle.program.proofs.Tables.{Pair, none_is, build_ok}
+use Rattle.program.proofs.Tables.{Pair, build_ok}
 
 -- whether an Else may come, for each open row
 abbrev marks : List Row → List ℕ → List Bool
@@ -80,16 +80,16 @@ goes : (k : Kind) (rows : List Row) (os : List ℕ) (r : Row) (x p : Pair) → S
 goes k rows os r x p e h = subst (λ (y : Pair). Goes k rows os r y) (some_is x p e) h
 
 plain_goes : (rows : List Row) (os : List ℕ) (r : Row) (p : Pair) → inside rows os ≡ Some p → Under (length rows) os → (0 < length (marks rows os)) × (marks (p.0 ++ r ∷ []) p.1 ≡ marks rows os) × Under (length (p.0 ++ r ∷ [])) p.1
-plain_goes rows [] r p e u = none_is p e
+plain_goes rows [] r p e u = cc
 plain_goes rows (o ∷ os) r p e u =
     subst (λ (y : Pair). (0 < length (marks rows (o ∷ os))) × (marks (y.0 ++ r ∷ []) y.1 ≡ marks rows (o ∷ os)) × Under (length (y.0 ++ r ∷ [])) y.1) (some_is (rows, o ∷ os) p e)
     (omega arith, behind rows r (o ∷ os) u, under rows r (o ∷ os) u)
 
 open_goes : (rows : List Row) (os : List ℕ) (r : Row) (b : Bool) (p : Pair) → is_if r.kind ≡ b → opens rows os (length rows) ≡ Some p → Under (length rows) os → (0 < length (marks rows os)) × (length (marks rows os) ≤ 8) × (marks (p.0 ++ r ∷ []) p.1 ≡ b ∷ marks rows os) × Under (length (p.0 ++ r ∷ [])) p.1
-open_goes rows [] r b p i e u = none_is p e
+open_goes rows [] r b p i e u = cc
 open_goes rows (o ∷ os) r b p i e u =
     split (leb 9 (length (o ∷ os))) None (Some (rows, length rows ∷ o ∷ os)) (Some p) e
-    (λ _ h. none_is p h)
+    (λ _ h. cc)
     (λ few h.
     let l = leb-false 9 (length (o ∷ os)) few in
     let n = length_marks rows (o ∷ os) in
@@ -102,7 +102,7 @@ open_goes rows (o ∷ os) r b p i e u =
     ))
 
 turn_goes : (rows : List Row) (os : List ℕ) (r : Row) (p : Pair) → is_if r.kind ≡ false → turns rows os (length rows) ≡ Some p → Under (length rows) os → Goes kind.Else rows os r p
-turn_goes rows [] r p i e u = none_is p e
+turn_goes rows [] r p i e u = cc
 turn_goes rows (o ∷ os) r p i e u =
     split (is_if (get_or rows o blank_row).kind) (Some (linked_at rows o (length rows), length rows ∷ os)) None (Some p) e
     (λ was h.
@@ -116,10 +116,10 @@ turn_goes rows (o ∷ os) r p i e u =
       ),
       (omega arith, linked_under rows r os u.1 o (length rows)),
     ))
-    (λ _ h. none_is p h)
+    (λ _ h. cc)
 
 close_goes : (rows : List Row) (os : List ℕ) (r : Row) (p : Pair) → closes rows os (length rows) ≡ Some p → Under (length rows) os → Goes kind.Close rows os r p
-close_goes rows [] r p e u = none_is p e
+close_goes rows [] r p e u = cc
 close_goes rows (o ∷ os) r p e u =
     goes kind.Close rows (o ∷ os) r (linked_at rows o (length rows), os) p e (
       (is_if (get_or rows o blank_row).kind, ap (λ x. is_if (get_or rows o blank_row).kind ∷ x) (sym (linked_behind rows r os u.1 o (length rows)))),
@@ -130,7 +130,7 @@ begin_goes : (c : ℕ) (rows : List Row) (os : List ℕ) (r : Row) (p : Pair) �
 begin_goes c rows [] r p i e u =
     let m = length_push rows r in
     goes (kind.Handler c) rows [] r (rows, length rows ∷ []) p e ((refl, ap (λ b. b ∷ []) (newest rows r [] tt ∙ i)), (omega arith, tt))
-begin_goes c rows (o ∷ os) r p i e u = none_is p e
+begin_goes c rows (o ∷ os) r p i e u = cc
 
 row_goes : (k : Kind) (f c : ℕ) (rows : List Row) (os : List ℕ) (p : Pair) → nested rows os (length rows) k ≡ Some p → Under (length rows) os → Goes k rows os (row k f c 0) p
 row_goes kind.Skip f c rows os p e u = let x = plain_goes rows os (row kind.Skip f c 0) p e u in ((x.0, x.1), x.2)

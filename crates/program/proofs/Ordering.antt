@@ -45,9 +45,6 @@ Matches (m ∷ ms) (parted a b ∷ fs) = (m ≡ true) × FitBlock (8 - length ms
 abbrev Closed : List Bool → List Line → List Frame → Tree → Type 0
 Closed ms ls fs p = (ls ≡ frame_lines fs p) × Matches ms fs × AllByRecursion FitHandler p
 
-never : {P : Type 0} → false ≡ true → P
-never e = let z : ◌≡◌ {A = ℕ} 0 1 = cc in absurd (omega arith)
-
 -- a command, of which the lines are pre, in front of the innermost block
 module _ (g : Block → Block) (pre : List Line) (ms : List Bool) (lines : (x : Block) → block_lines (g x) ≡ pre ++ block_lines x) (fit : (x : Block) (d : ℕ) → d ≡ 8 - (length ms - 1) → FitBlock d x → FitBlock d (g x)) (pos : 0 < length ms) (p : Tree) where
   in_front : (x : Block) (ls : List Line) → pre ++ (block_lines x ++ ls) ≡ block_lines (g x) ++ ls
@@ -115,18 +112,18 @@ module _ (ts : List Term) (h : Expression ts) (ms : List Bool) (pos : 0 < length
   repeats (whole b ∷ fs) ls c =
       let x = one_part kind.While (repeat (expression_of ts) b) b fs ls (λ x. refl) (λ x d z f. (omega arith, fits, inner d b z c.1.0, f)) c.0 c.1.1 in
       (x.0, x.1, c.2)
-  repeats (parted a b ∷ fs) ls c = never c.1.0
+  repeats (parted a b ∷ fs) ls c = cc
 
 begins : (c : ℕ) (fs : List Frame) (p : Tree) (ls : List Line) → c ≤ 15 → Closed (false ∷ []) ls fs p → Before (kind.Handler c) [] [] fs p ls
 begins c [] p ls fit h = absurd h.1
 begins c (whole b ∷ []) p ls fit h = (ap (λ y. (kind.Handler c, []) ∷ y) h.0, tt, ((fit, h.1.0), h.2))
 begins c (whole b ∷ f ∷ fs) p ls fit h = absurd h.1.1
-begins c (parted a b ∷ fs) p ls fit h = never h.1.0
+begins c (parted a b ∷ fs) p ls fit h = cc
 
 parts : (rs : List Bool) (fs : List Frame) (p : Tree) (ls : List Line) → Closed (false ∷ rs) ls fs p → Before kind.Else [] (true ∷ rs) fs p ls
 parts rs [] p ls h = absurd h.1
 parts rs (whole b ∷ fs) p ls h = (ap (λ y. else_line ∷ y) h.0, (refl, tt, h.1.0, h.1.1), h.2)
-parts rs (parted a b ∷ fs) p ls h = never h.1.0
+parts rs (parted a b ∷ fs) p ls h = cc
 
 moved : (ms ns : List Bool) (ls : List Line) (fs : List Frame) (p : Tree) → ns ≡ ms → Closed ns ls fs p → Closed ms ls fs p
 moved ms ns ls fs p e c = (c.0, subst (λ (x : List Bool). Matches x fs) e c.1, c.2)

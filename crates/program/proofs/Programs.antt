@@ -67,7 +67,7 @@ built_is_flat ls t fit z b =
 
 ended_is : (s t : Tables) (os : List ℕ) → s.stack ≡ os → ended s os ≡ Ok t → (s ≡ t) × (t.stack ≡ [])
 ended_is s t [] z e = let q = same_ok s t e in (q, ap (λ (x : Tables). x.stack) (sym q) ∙ z)
-ended_is s t (o ∷ os) z e = let y : ◌≡◌ {A = ℕ} 0 1 = cc in absurd (omega arith)
+ended_is s t (o ∷ os) z e = cc
 
 read_is_written : (t : List ℕ) (s : Tables) → reading t ≡ Ok s → (p : Tree) × Writes p t × (s ≡ flat p)
 read_is_written t s e =

@@ -52,7 +52,7 @@ runs_lead_to_one s t u (l ∷ ls) f g =
 room_says : (s : Tables) (ts : List Term) → has_room s ts ≡ true → (length s.rows < 128) × (length s.terms + length ts ≤ 512)
 room_says s ts e =
     split (leb 128 (length s.rows)) false (leb (length s.terms + length ts) 512) true e
-    (λ _ h. let z : ◌≡◌ {A = ℕ} 0 1 = cc in absurd (omega arith))
+    (λ _ h. cc)
     (λ a h. (leb-false 128 (length s.rows) a, leb-true (length s.terms + length ts) 512 h))
 
 pub runs_are_few : (s t : Tables) (ls : List Line) → length s.rows ≤ 128 → length s.terms ≤ 512 → Runs s ls t → (length s.rows + length ls ≤ 128) × (length s.terms + length (all_terms ls) ≤ 512)

@@ -1,8 +1,7 @@
 -- The lines that tables stand for are those that they were built of. Assumes nothing.
-use Rattle.std.proofs.Common.{◌≡◌, ℕ, zero, suc, ◌+◌, ◌≤◌, true, false, cond, ◌⊎◌, List, [], ◌∷◌, ◌++◌, length, get_or, take, drop, Some, None, Ok, Err, Option, Result, sym, refl, ap, ◌∙◌, subst, inl, inr, ⊎_elim, append_assoc, append-nil, arith, length-append, length-drop, length-set}
+use Rattle.std.proofs.Common.{◌≡◌, ℕ, zero, suc, ◌+◌, ◌≤◌, true, false, cond, leb, ◌⊎◌, List, [], ◌∷◌, ◌++◌, length, get_or, take, drop, Some, None, Ok, Err, Option, sym, refl, ap, ◌∙◌, subst, inl, inr, ⊎_elim, append_assoc, append-nil, arith, length-append, length-drop, length-set}
 use Rattle.std.proofs.lemmas.List.{take-append-le, drop-append-le, drop_at, take_all, map_push, length_push}
 use Rattle.std.specs.List.{AllByRecursion}
-use Rattle.fault.specs.declared.Fault.{Fault}
 use Rattle.fault.proofs.Then.{then_ok, same_ok, cond_ok}
 use Rattle.text.specs.Building.{Built}
 use Rattle.text.specs.Places.{nest_at, twice_at, full_at}
@@ -58,28 +57,25 @@ Pair = List Row × List ℕ
 pub first_is : (x y : Pair) → Some x ≡ Some y → x.0 ≡ y.0
 first_is x y e = let q : x ≡ y = cc in ap (λ (p : Pair). p.0) q
 
-pub none_is : {P : Type 0} (y : Pair) → None ≡ Some y → P
-none_is y e = let z : ◌≡◌ {A = ℕ} 0 1 = cc in absurd (omega arith)
-
 inside_same : (rows : List Row) (st : List ℕ) (p : Pair) → inside rows st ≡ Some p → Same rows p.0
-inside_same rows [] p e = none_is p e
+inside_same rows [] p e = cc
 inside_same rows (o ∷ os) p e = inl (sym (first_is (rows, o ∷ os) p e))
 
 opens_same : (rows : List Row) (st : List ℕ) (j : ℕ) (p : Pair) → opens rows st j ≡ Some p → Same rows p.0
-opens_same rows [] j p e = none_is p e
-opens_same rows (o ∷ os) j p e = split _ _ _ (Some p) e (λ _ h. none_is p h) (λ _ h. inl (sym (first_is (rows, j ∷ o ∷ os) p h)))
+opens_same rows [] j p e = cc
+opens_same rows (o ∷ os) j p e = split (leb 9 (length (o ∷ os))) None (Some (rows, j ∷ o ∷ os)) (Some p) e (λ _ h. cc) (λ _ h. inl (sym (first_is (rows, j ∷ o ∷ os) p h)))
 
 turns_same : (rows : List Row) (st : List ℕ) (j : ℕ) (p : Pair) → turns rows st j ≡ Some p → Same rows p.0
-turns_same rows [] j p e = none_is p e
-turns_same rows (o ∷ os) j p e = split (is_if (get_or rows o blank_row).kind) (Some (linked_at rows o j, j ∷ os)) None (Some p) e (λ _ h. inr (o, j, sym (first_is (linked_at rows o j, j ∷ os) p h))) (λ _ h. none_is p h)
+turns_same rows [] j p e = cc
+turns_same rows (o ∷ os) j p e = split (is_if (get_or rows o blank_row).kind) (Some (linked_at rows o j, j ∷ os)) None (Some p) e (λ _ h. inr (o, j, sym (first_is (linked_at rows o j, j ∷ os) p h))) (λ _ h. cc)
 
 closes_same : (rows : List Row) (st : List ℕ) (j : ℕ) (p : Pair) → closes rows st j ≡ Some p → Same rows p.0
-closes_same rows [] j p e = none_is p e
+closes_same rows [] j p e = cc
 closes_same rows (o ∷ os) j p e = inr (o, j, sym (first_is (linked_at rows o j, os) p e))
 
 begins_same : (rows : List Row) (st : List ℕ) (j : ℕ) (p : Pair) → begins rows st j ≡ Some p → Same rows p.0
 begins_same rows [] j p e = inl (sym (first_is (rows, j ∷ []) p e))
-begins_same rows (o ∷ os) j p e = none_is p e
+begins_same rows (o ∷ os) j p e = cc
 
 pub nested_same : (rows : List Row) (st : List ℕ) (j : ℕ) (k : Kind) (p : Pair) → nested rows st j k ≡ Some p → Same rows p.0
 nested_same rows st j Skip p e = inside_same rows st p e
@@ -105,11 +101,8 @@ pub record Kept (s : Tables) (done : List Line) : Type 0 where
   pub lines : lines_from s.rows s.terms ≡ done
 
 pub or_nest : (n : ℕ) (o : Option Pair) (p : Pair) → or_refused (nest_at n) o ≡ Ok p → o ≡ Some p
-or_nest n None p e = let z : ◌≡◌ {A = ℕ} 0 1 = cc in absurd (omega arith)
+or_nest n None p e = cc
 or_nest n (Some q) p e = cc
-
-err_tables : {P : Type 0} (f : Fault) (t : Tables) → ◌≡◌ {A = Result Tables Fault} (Err f) (Ok t) → P
-err_tables f t e = let z : ◌≡◌ {A = ℕ} 0 1 = cc in absurd (omega arith)
 
 -- what a line that was put says of the tests
 pub build_ok : (s : Tables) (n : ℕ) (l : Line) (t : Tables) → build s n l ≡ Ok t
@@ -118,7 +111,7 @@ build_ok s n l t e =
     let x = then_ok (or_refused (nest_at n) (nested s.rows s.stack (length s.rows) l.0)) (λ p. cond (is_twice l.0 s.rows) (Err (twice_at n)) (cond (has_room s l.1) (Ok (added s l p)) (Err (full_at n)))) t e in
     let p = x.0 in
     split (is_twice l.0 s.rows) (Err (twice_at n)) (cond (has_room s l.1) (Ok (added s l p)) (Err (full_at n))) (Ok t) x.2
-    (λ _ h. err_tables (twice_at n) t h)
+    (λ _ h. cc)
     (λ w h. let r = cond_ok (has_room s l.1) (Ok (added s l p)) (full_at n) t h in (p, or_nest n _ p x.1, same_ok (added s l p) t r.1, w, r.0))
 
 added_kept : (s : Tables) (done : List Line) (l : Line) (p : Pair) → Kept s done → Same s.rows p.0 → Kept (added s l p) (done ++ l ∷ [])

@@ -1,5 +1,6 @@
 -- How the lines of a program become rows and terms, one after the other. Assumes nothing.
 use Rattle.std.specs.Prelude.{ℕ, ◌+◌, Bool, true, false, cond, List, [], ◌∷◌, ◌++◌, map, length, take, drop, Some, None, Ok, Err, Option, Result, ◌==◌, nat_le, slice_index_or, slice_set}
+use Rattle.std.specs.List.{list_any}
 use Rattle.fault.specs.declared.Fault.{Fault}
 use Rattle.fault.specs.Faults.{then}
 use Rattle.text.specs.Places.{nest_at, twice_at, full_at}
@@ -95,8 +96,7 @@ is_handler_of c Else = false
 is_handler_of c Close = false
 
 abbrev pub has_handler : ℕ → List Row → Bool
-has_handler c [] = false
-has_handler c (r ∷ rs) = cond (is_handler_of c r.kind) true (has_handler c rs)
+has_handler c rows = list_any (λ r. is_handler_of c r.kind) rows
 
 -- a handler of a channel that has one already
 abbrev pub is_twice : Kind → List Row → Bool

@@ -2,6 +2,8 @@ pub mod Building
 pub mod Laws
 pub mod Lines
 pub mod Nesting
+pub mod Open
+pub mod Progress
 pub mod Reading
 pub mod Terms
 pub mod Trees

@@ -1,5 +1,6 @@
 -- A line of a site program: what is read, and what is written. Assumes nothing.
-use Rattle.std.specs.Prelude.{◌≡◌, ℕ, ◌+◌, ◌≤◌, cond, List, [], ◌∷◌, ◌++◌, map, length, take, Ok, Err, decimal, Result, ◌==◌}
+use Rattle.std.specs.Prelude.{◌≡◌, ℕ, ◌+◌, ◌≤◌, cond, List, [], ◌∷◌, ◌++◌, map, length, Ok, Err, decimal, Result, ◌==◌}
+use Rattle.arrayvec.specs.ArrayVec.{ArrayVec}
 use Rattle.fault.specs.declared.Fault.{Fault}
 use Rattle.fault.specs.Faults.{then}
 use Rattle.text.specs.Pieces.{pieces, joined}
@@ -18,13 +19,9 @@ Line = Kind × List Term
 abbrev pub whole_from : ℕ → ℕ → List (List ℕ) → Result (List Term) Fault
 whole_from n k fs = then (expression_from n k 1 [] fs) (λ e. then (read_end n (k + length e.0) e.1) (λ _. Ok e.0))
 
--- the answer r and the lent terms that what was read leaves; a refusal leaves any
-abbrev pub WholeRead : Result (List Term) Fault → Result ℕ Fault → List Term → Type 0
-WholeRead (Ok ts) r terms = (r ≡ Ok (length ts)) × (take (length ts) terms ≡ ts)
-WholeRead (Err f) r terms = r ≡ Err f
-
-abbrev pub bare_in : ℕ → Kind → List (List ℕ) → Result (Kind × ℕ) Fault
-bare_in n kind fs = then (read_end n 2 fs) (λ _. Ok (kind, 0))
+-- terms as they are held
+abbrev pub held_terms : Result (List Term) Fault → Result (ArrayVec Term) Fault
+held_terms r = then r (λ ts. Ok (record { items = ts }))
 
 -- a letter alone, or with an expression
 abbrev pub alone : ℕ → Kind → List (List ℕ) → Result Line Fault
@@ -37,9 +34,8 @@ tested n kind fs = then (whole_from n 2 fs) (λ ts. Ok (kind, ts))
 abbrev pub aimed_from : ℕ → ℕ → ℕ → List (List ℕ) → Result (ℕ × List Term) Fault
 aimed_from n low high fs = then (read_number n 2 low high fs) (λ v. then (whole_from n 3 (tail_of fs)) (λ ts. Ok (v, ts)))
 
-abbrev pub AimedRead : Result (ℕ × List Term) Fault → Result (ℕ × ℕ) Fault → List Term → Type 0
-AimedRead (Ok a) r terms = (r ≡ Ok (a.0, length a.1)) × (take (length a.1) terms ≡ a.1)
-AimedRead (Err f) r terms = r ≡ Err f
+abbrev pub held_aim : Result (ℕ × List Term) Fault → Result (ℕ × ArrayVec Term) Fault
+held_aim r = then r (λ a. Ok (a.0, record { items = a.1 }))
 
 abbrev pub aimed : ℕ → (ℕ → Kind) → ℕ → ℕ → List (List ℕ) → Result Line Fault
 aimed n kind low high fs = then (aimed_from n low high fs) (λ a. Ok (kind a.0, a.1))
@@ -67,9 +63,8 @@ line_in n fs = then (read_letter n fs) (λ c. by_letter n c (tail_of fs))
 abbrev pub parse : ℕ → List ℕ → Result Line Fault
 parse n p = line_in n (pieces 44 p)
 
-abbrev pub LineRead : Result Line Fault → Result (Kind × ℕ) Fault → List Term → Type 0
-LineRead (Ok l) r terms = (r ≡ Ok (l.0, length l.1)) × (take (length l.1) terms ≡ l.1)
-LineRead (Err f) r terms = r ≡ Err f
+abbrev pub held_line : Result Line Fault → Result (Kind × ArrayVec Term) Fault
+held_line r = then r (λ l. Ok (l.0, record { items = l.1 }))
 
 abbrev pub letter_byte : Kind → ℕ
 letter_byte Skip = 83

@@ -1,5 +1,5 @@
 -- What the text of a site program is read as, and what a call leaves in the lent tables. Assumes nothing.
-use Rattle.std.specs.Prelude.{◌≡◌, ℕ, ◌+◌, ◌-◌, Bool, cond, ◌&&◌, List, [], ◌∷◌, ◌++◌, length, take, replicate, Ok, Err, Result, nat_le}
+use Rattle.std.specs.Prelude.{◌≡◌, ℕ, ◌+◌, ◌-◌, Bool, cond, ◌&&◌, List, [], ◌∷◌, ◌++◌, length, replicate, Ok, Err, Result, nat_le}
 use Rattle.fault.specs.declared.Fault.{Fault}
 use Rattle.fault.specs.declared.Reason.TheVariants as reason
 use Rattle.fault.specs.Faults.{unplaced, then}
@@ -58,11 +58,6 @@ rows_after t rows terms = cond (enough rows terms) (rows_left (length rows) (rea
 
 abbrev pub terms_after : List ℕ → List Row → List Term → List Term
 terms_after t rows terms = cond (enough rows terms) (terms_left (length terms) (reading t)) terms
-
--- the answer r, with the rows, terms and open rows, that one more line leaves; a refusal leaves any
-abbrev pub GoesOn : Result Tables Fault → Result ℕ Fault → List Row → List Term → List ℕ → Type 0
-GoesOn (Ok t) r rows terms stack = (r ≡ Ok (length t.terms)) × (rows ≡ t.rows) × (take (length t.terms) terms ≡ t.terms) × (stack ≡ t.stack)
-GoesOn (Err f) r rows terms stack = r ≡ Err f
 
 -- the answer r and the lent tables that what was read leaves; a refusal leaves any
 abbrev pub Filled : Result Tables Fault → Result ℕ Fault → List Row → List Term → Type 0

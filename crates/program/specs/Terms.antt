@@ -1,8 +1,11 @@
 -- Terms and expressions as fields of a line: what is read, and what is written. Assumes nothing.
-use Rattle.std.specs.Prelude.{◌≡◌, ℕ, ◌+◌, ◌-◌, ◌^◌, ◌<◌, ◌≤◌, cond, List, [], ◌∷◌, ◌++◌, length, take, drop, Some, None, Ok, Err, decimal, Option, Result, ◌==◌, nat_le, slice_index}
+use Rattle.std.specs.Prelude.{◌≡◌, ℕ, ◌+◌, ◌-◌, ◌^◌, ◌<◌, ◌≤◌, cond, List, [], ◌∷◌, ◌++◌, length, drop, Some, None, Ok, Err, decimal, Option, Result, ◌==◌, nat_le, slice_index}
 use Rattle.std.specs.List.{AllByRecursion}
+use Rattle.std.specs.Option.{option_map}
+use Rattle.arrayvec.specs.ArrayVec.{ArrayVec}
 use Rattle.fault.specs.declared.Fault.{Fault}
 use Rattle.fault.specs.Faults.{then}
+use Rattle.language.specs.Operators.{operator_of}
 use Rattle.language.specs.declared.Operator as language
 use Rattle.language.specs.declared.Operator.TheVariants.{Plus, Minus, Times, Equal, Less, Round}
 use Rattle.text.specs.Numbers.{number_in}
@@ -20,27 +23,18 @@ operator_byte Equal = 61
 operator_byte Less = 60
 operator_byte Round = 114
 
-abbrev pub operator_in : ℕ → Option language.Operator
-operator_in c =
-    cond (c == 43) (Some Plus)
-    (cond (c == 45) (Some Minus)
-    (cond (c == 42) (Some Times)
-    (cond (c == 61) (Some Equal)
-    (cond (c == 60) (Some Less)
-    (cond (c == 114) (Some Round) None)))))
-
-abbrev pub term_if_any : {X : Type 0} → (X → Term) → Option X → Option Term
-term_if_any of None = None
-term_if_any of (Some x) = Some (of x)
-
 -- the term that a field is: x, k with a number, v with a number to 15, or an operator
 abbrev pub term_in : List ℕ → Option Term
 term_in bs =
     cond (length bs == 0) None
     (cond (slice_index bs 0 == 120) (cond (length bs == 1) (Some Input) None)
-    (cond (slice_index bs 0 == 107) (term_if_any Constant (number_in 0 4294967295 (drop 1 bs)))
-    (cond (slice_index bs 0 == 118) (term_if_any Variable (number_in 0 15 (drop 1 bs)))
-    (cond (length bs == 1) (term_if_any Operator (operator_in (slice_index bs 0))) None))))
+    (cond (slice_index bs 0 == 107) (option_map Constant (number_in 0 4294967295 (drop 1 bs)))
+    (cond (slice_index bs 0 == 118) (option_map Variable (number_in 0 15 (drop 1 bs)))
+    (cond (length bs == 1) (option_map Operator (operator_of (slice_index bs 0))) None))))
+
+abbrev pub term_in_head : Option (List ℕ) → Option Term
+term_in_head None = None
+term_in_head (Some f) = term_in f
 
 -- the field that is written of a term
 abbrev pub term_bytes : Term → List ℕ
@@ -71,10 +65,10 @@ expression_from n k lacking acc (f ∷ fs) =
     (cond (nat_le 15 (length acc)) (Err (field_at n k))
     (then (or_refused (field_at n k) (term_in f)) (λ t. expression_from n (k + 1) (lacking - 1 + arity_of t) (acc ++ t ∷ []) fs)))
 
--- the answer r and the lent terms that what was read leaves, and the fields that are left; a refusal leaves any
-abbrev pub ExpressionRead : Result (List Term × List (List ℕ)) Fault → Result ℕ Fault → List Term → List (List ℕ) → Type 0
-ExpressionRead (Ok e) r terms fs = (r ≡ Ok (length e.0)) × (take (length e.0) terms ≡ e.0) × (fs ≡ e.1)
-ExpressionRead (Err f) r terms fs = r ≡ Err f
+-- the answer r, and the fields that are left, where terms were read; a refusal leaves any
+abbrev pub ExpressionRead : Result (List Term × List (List ℕ)) Fault → Result (ArrayVec Term) Fault → List (List ℕ) → Type 0
+ExpressionRead (Ok e) r fs = (r ≡ Ok (record { items = e.0 })) × (fs ≡ e.1)
+ExpressionRead (Err f) r fs = r ≡ Err f
 
 -- so many parts are just what the terms make, in prefix order
 abbrev pub Whole : ℕ → List Term → Type 0

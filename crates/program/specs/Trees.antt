@@ -36,6 +36,7 @@ expression_of ts = first_expression (expressions ts)
 pub data Frame : Type 0 where
   whole : Block → Frame
   parted : Block → Block → Frame
+  deriving IsSet as Frame-set
 
 -- a command in front of the innermost
 abbrev pub prefixed : (Block → Block) → List Frame → List Frame

@@ -1,6 +1,6 @@
 -- The one text of a program and its flat form, and what a program may hold. Assumes nothing.
-use Rattle.std.specs.Prelude.{◌≡◌, ℕ, ◌+◌, ◌-◌, ◌^◌, ◌<◌, ◌≤◌, Bool, true, false, cond, List, [], ◌∷◌, ◌++◌, map, length, ◌==◌}
-use Rattle.std.specs.List.{AllByRecursion}
+use Rattle.std.specs.Prelude.{◌≡◌, ℕ, ◌+◌, ◌-◌, ◌^◌, ◌<◌, ◌≤◌, Bool, true, false, List, [], ◌∷◌, ◌++◌, map, length, ◌==◌}
+use Rattle.std.specs.List.{AllByRecursion, list_any}
 use Rattle.language.specs.Block.{Block, done, skip, assign, output, branch, repeat, Tree}
 use Rattle.language.specs.Block as block
 use Rattle.language.specs.Expression.{Expr, input, constant, variable, binary}
@@ -129,8 +129,7 @@ abbrev pub FitHandler : block.Handler → Type 0
 FitHandler h = (h.channel ≤ 15) × FitBlock 8 h.body
 
 abbrev pub is_listed : ℕ → List ℕ → Bool
-is_listed c [] = false
-is_listed c (d ∷ cs) = cond (c == d) true (is_listed c cs)
+is_listed c cs = list_any (λ d. c == d) cs
 
 -- no handler is for a channel that is listed, or that an earlier one has
 abbrev pub Once : List ℕ → Tree → Type 0

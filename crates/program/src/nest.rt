@@ -1,99 +1,78 @@
 // Which rows are open, and the partners that are written where one closes.
-ghost use Rattle.std.specs.Prelude.{◌≡◌, ◌+◌, ◌≤◌, length, drop};
-ghost use Rattle.program.specs.Building.{is_handler_of, has_handler, turns, nested};
-ghost use Rattle.program.specs.Nesting.{opened, Nests, Below};
+ghost use Rattle.std.specs.Prelude.{◌≡◌, ◌+◌, ◌≤◌, ◌==◌, not, [], length};
+ghost use Rattle.program.specs.Building.{nested};
+ghost use Rattle.program.specs.Nesting.{Nests};
 
 use crate::rows::{Kind, Row};
+use arrayvec::ArrayVec;
+use std::marker::Model;
 
-// The open rows, the handler first: it and at most eight blocks.
-#[derive(Clone, Copy)]
-pub struct Stack {
-    pub at: [u8; 9],
-    pub depth: usize,
+// How many rows there are, and which of them are open: a handler and at most eight blocks in it.
+#[derive(Drop)]
+pub struct Nesting {
+    count: usize,
+    open: ArrayVec<u8, 9>,
 }
 
-impl Stack {
-    pub const EMPTY: Stack = Stack {
-        at: [0; 9],
-        depth: 0,
-    };
+impl Model for Nesting {
+    ghost use Rattle.std.specs.Prelude.{reverse};
+    ghost use Rattle.program.specs.Open.{Open, Among};
+
+    ghost Value = { Open };
+
+    ghost view = { λ n. record { count = n.count; stack = reverse n.«open».items } };
+
+    ghost invariant = { λ n. Among n.count (reverse n.«open».items) };
 }
 
-// Row j, of a kind, behind the open ones; false where it is misplaced.
-pub fn nest(rows: &mut [Row], stack: &mut Stack, j: u8, kind: Kind) -> bool
-    requires { (j ≤ length rows.old) × (Below stack.old.depth stack.old.at j) }
-    ensures value { Nests (nested rows.old (opened stack.old.depth stack.old.at) j kind) result rows.new (opened stack.new.depth stack.new.at) }
-    ensures below { Below stack.new.depth stack.new.at (j + 1) }
-    ensures rest { drop j rows.new ≡ drop j rows.old }
-{
-    match kind {
-        Kind::Skip | Kind::Assign(_) | Kind::Output(_) => stack.depth > 0,
-        Kind::Handler(_) => {
-            if stack.depth > 0 {
-                return false;
+impl Nesting {
+    pub fn new() -> Nesting
+        ensures { result ≡ record { count = 0; stack = [] } }
+    {
+        Nesting {
+            count: 0,
+            open: ArrayVec::new(),
+        }
+    }
+
+    pub(crate) fn count(&self) -> usize
+        ensures { result ≡ self.now.count }
+    {
+        self.count
+    }
+
+    // A row is open.
+    pub fn is_open(&self) -> bool
+        ensures { result ≡ not (length self.now.stack == 0) }
+    {
+        !self.open.is_empty()
+    }
+
+    // One more row, of a kind, behind these; none where it is misplaced.
+    #[tactic(auto, using(crate::proofs::Stacks::kept, crate::proofs::Stacks::opened, crate::proofs::Stacks::turned))]
+    pub(crate) fn nest(&mut self, rows: &mut [Row], kind: Kind) -> Option<()>
+        requires few { self.old.count ≤ 128 }
+        requires all { length rows.old ≡ self.old.count }
+        ensures value { Nests (nested rows.old self.old.stack self.old.count kind) result rows.new self.new.stack }
+        ensures count { self.new.count ≡ self.old.count + 1 }
+    {
+        let j = self.count as u8;
+        self.count += 1;
+        match kind {
+            Kind::Skip | Kind::Assign(_) | Kind::Output(_) if self.is_open() => {}
+            Kind::Handler(_) if !self.is_open() => self.open.push(j),
+            Kind::If | Kind::While if self.is_open() && !self.open.is_full() => self.open.push(j),
+            Kind::Else => {
+                let top = self.open.pop()? as usize;
+                if rows[top].kind != Kind::If {
+                    return None;
+                }
+                rows[top].partner = j;
+                self.open.push(j);
             }
-            stack.at[0] = j;
-            stack.depth = 1;
-            true
+            Kind::Close => rows[self.open.pop()? as usize].partner = j,
+            _ => return None,
         }
-        Kind::If | Kind::While => {
-            if stack.depth == 0 || stack.depth >= 9 {
-                return false;
-            }
-            stack.at[stack.depth] = j;
-            stack.depth += 1;
-            true
-        }
-        Kind::Else => turn(rows, stack, j),
-        Kind::Close => {
-            if stack.depth == 0 {
-                return false;
-            }
-            stack.depth -= 1;
-            rows[stack.at[stack.depth] as usize].partner = j;
-            true
-        }
+        Some(())
     }
-}
-
-// An Else at row j takes the place of the innermost open row, which must be an If.
-fn turn(rows: &mut [Row], stack: &mut Stack, j: u8) -> bool
-    requires { (j ≤ length rows.old) × (Below stack.old.depth stack.old.at j) }
-    ensures value { Nests (turns rows.old (opened stack.old.depth stack.old.at) j) result rows.new (opened stack.new.depth stack.new.at) }
-    ensures below { Below stack.new.depth stack.new.at (j + 1) }
-    ensures rest { drop j rows.new ≡ drop j rows.old }
-{
-    if stack.depth == 0 {
-        return false;
-    }
-    let top = stack.at[stack.depth - 1] as usize;
-    match rows[top].kind {
-        Kind::If => {
-            rows[top].partner = j;
-            stack.at[stack.depth - 1] = j;
-            true
-        }
-        _ => false,
-    }
-}
-
-fn is_handler(kind: Kind, channel: u8) -> bool
-    ensures { result ≡ is_handler_of channel kind }
-{
-    match kind {
-        Kind::Handler(c) => channel == c,
-        _ => false,
-    }
-}
-
-// A handler of a channel is among the rows.
-pub fn has_handler(rows: &[Row], channel: u8) -> bool
-    ensures { result ≡ has_handler channel rows.now }
-{
-    for row in rows {
-        if is_handler(row.kind, channel) {
-            return true;
-        }
-    }
-    false
 }

@@ -1,48 +1,51 @@
 // The reader of a site program: lines `H,channel`, `A,variable,expression`, `O,channel,expression`, `S`, `I,expression`, `W,expression`, `E` and `X`.
-ghost use Rattle.std.specs.Prelude.{◌≡◌, ◌+◌, ◌<◌, ◌≤◌, length, take, drop, replicate, IfOk};
+ghost use Rattle.std.specs.Prelude.{◌≡◌, ◌+◌, ◌<◌, ◌≤◌, length, drop, replicate, OnOk};
 ghost use Rattle.text.specs.Building.{two_steps};
 ghost use Rattle.program.specs.Lines.{parse};
-ghost use Rattle.program.specs.Building.{blank_row, blank_term, tables, build};
-ghost use Rattle.program.specs.Nesting.{opened, Below};
+ghost use Rattle.program.specs.Building.{blank_row, blank_term, build};
 ghost use Rattle.program.specs.Laws.{Accepts};
-ghost use Rattle.program.specs.Reading.{reading, answer, rows_after, terms_after, GoesOn, Filled};
+ghost use Rattle.program.specs.Progress.{so_far, GoesOn};
+ghost use Rattle.program.specs.Reading.{reading, answer, rows_after, terms_after, Filled};
 
-use crate::add::{ROW_LIMIT, TERM_LIMIT, add_row};
+use crate::add::{ROW_LIMIT, TERM_LIMIT};
 use crate::line::read_line;
-use crate::nest::Stack;
+use crate::nest::Nesting;
 use crate::rows::{Row, Term};
-use crate::terms::EXPRESSION_LIMIT;
 use fault::{Fault, Reason};
-use text::{TEXT_LIMIT, next_line, placed};
+use text::{Line, Lines, placed};
 
-// One line behind j rows and `used` terms; the answer is how many terms there are then.
-fn put_line(
-    line: &[u8],
-    rows: &mut [Row],
-    terms: &mut [Term],
-    stack: &mut Stack,
-    j: usize,
+// How far lent rows and terms are filled. A struct that held the tables too would promise with each method that they are still the same.
+#[derive(Drop)]
+struct Progress {
+    nesting: Nesting,
+    // How many terms there are.
     used: usize,
-) -> Result<usize, Fault>
-    requires { (j ≤ 128) × ((128 ≤ length rows.old) × ((used ≤ 512) × ((512 ≤ length terms.old) × (Below stack.old.depth stack.old.at j)))) }
-    ensures value { GoesOn (two_steps parse build (tables (take j rows.old) (take used terms.old) (opened stack.old.depth stack.old.at)) (j + 1) line.now) result (take (j + 1) rows.new) terms.new (opened stack.new.depth stack.new.at) }
-    ensures below { Below stack.new.depth stack.new.at (j + 1) }
-    ensures rows { drop (j + 1) rows.new ≡ drop (j + 1) rows.old }
-    ensures terms { IfOk result (λ n. (j < 128) × (used ≤ n) × (n ≤ 512) × (drop n terms.new ≡ drop n terms.old)) }
-{
-    let number = j as u16 + 1;
-    let mut part = [Term::BLANK; EXPRESSION_LIMIT];
-    let (kind, count) = read_line(line, number, &mut part)?;
-    let row = Row {
-        kind,
-        first: used as u16,
-        count: count as u8,
-        partner: 0,
-    };
-    add_row(rows, stack, j, row, number)?;
-    let end = used + count;
-    terms[used..end].copy_from_slice(&part[..count]);
-    Ok(end)
+}
+
+impl Progress {
+    // One more line, into the next places.
+    fn put(&mut self, line: Line<'_>, rows: &mut [Row], terms: &mut [Term]) -> Result<(), Fault>
+        requires few { (self.old.nesting.count ≤ 128) × (self.old.used ≤ 512) }
+        requires room { (128 ≤ length rows.old) × (512 ≤ length terms.old) }
+        ensures value { GoesOn (two_steps parse build (so_far self.old rows.old terms.old) line.entry.number line.entry.bytes.now) result (so_far self.new rows.new terms.new) }
+        ensures count { OnOk result (self.new.nesting.count ≡ self.old.nesting.count + 1) }
+        ensures rows { drop (self.old.nesting.count + 1) rows.new ≡ drop (self.old.nesting.count + 1) rows.old }
+        ensures terms { drop self.new.used terms.new ≡ drop self.new.used terms.old }
+        ensures room { OnOk result ((self.old.nesting.count < 128) × (self.old.used ≤ self.new.used) × (self.new.used ≤ 512)) }
+    {
+        let (kind, expression) = read_line(line)?;
+        let row = Row {
+            kind,
+            first: self.used as u16,
+            count: expression.len() as u8,
+            partner: 0,
+        };
+        self.nesting.add(rows, row, line.number)?;
+        let end = self.used + expression.len();
+        terms[self.used..end].copy_from_slice(&expression);
+        self.used = end;
+        Ok(())
+    }
 }
 
 // The lines of a text, each into its places of blank tables.
@@ -51,25 +54,18 @@ fn fill_tables(text: &[u8], rows: &mut [Row], terms: &mut [Term]) -> Result<usiz
     requires blank { (rows.old ≡ replicate (length rows.old) blank_row) × (terms.old ≡ replicate (length terms.old) blank_term) }
     ensures { Filled (reading text.now) result rows.new terms.new }
 {
-    if text.len() > TEXT_LIMIT {
-        return Err(Fault::unplaced(Reason::Overlong));
+    let mut progress = Progress {
+        nesting: Nesting::new(),
+        used: 0,
+    };
+    for line in Lines::new(text)? {
+        progress.put(line?, rows, terms)?;
     }
-    let mut left = text;
-    let mut stack = Stack::EMPTY;
-    let mut j: usize = 0;
-    let mut used: usize = 0;
-    loop {
-        let number = j as u16 + 1;
-        let Some((line, rest)) = next_line(left, number)? else {
-            if stack.depth > 0 {
-                return Err(placed(Reason::Nest, number, 0));
-            }
-            return Ok(j);
-        };
-        used = put_line(line, rows, terms, &mut stack, j, used)?;
-        j += 1;
-        left = rest;
+    let count = progress.nesting.count();
+    if progress.nesting.is_open() {
+        return Err(placed(Reason::Nest, count as u16 + 1, 0));
     }
+    Ok(count)
 }
 
 // The program that a text is the writing of, as its flat form in at least 128 lent rows and 512 lent terms; the answer counts the rows.
@@ -84,12 +80,10 @@ pub fn read_program(text: &[u8], rows: &mut [Row], terms: &mut [Term]) -> Result
     }
     rows.fill(Row::BLANK);
     terms.fill(Term::BLANK);
-    match fill_tables(text, rows, terms) {
-        Ok(count) => Ok(count),
-        Err(fault) => {
-            rows.fill(Row::BLANK);
-            terms.fill(Term::BLANK);
-            Err(fault)
-        }
+    let read = fill_tables(text, rows, terms);
+    if read.is_err() {
+        rows.fill(Row::BLANK);
+        terms.fill(Term::BLANK);
     }
+    read
 }

@@ -1,10 +1,14 @@
 // The flat form of a site program: a table of rows, one for each line, and a table of the terms of their expressions.
+ghost use Rattle.std.specs.Prelude.{◌≡◌};
+ghost use Rattle.program.specs.Building.{is_handler_of};
+
 use language::Operator;
 
 // A part of an expression in prefix order: an operator stands before its two parts.
-#[derive(Clone, Copy)]
+#[derive(Clone, Copy, PartialEq, Eq, Debug, Default)]
 pub enum Term {
     // The value of the ticket.
+    #[default]
     Input,
     Constant(u32),
     Variable(u8),
@@ -17,7 +21,7 @@ impl Term {
 }
 
 // What a row does.
-#[derive(Clone, Copy)]
+#[derive(Clone, Copy, PartialEq, Eq, Debug)]
 pub enum Kind {
     Skip,
     // Opens the handler of an in channel.
@@ -34,7 +38,16 @@ pub enum Kind {
     Close,
 }
 
-#[derive(Clone, Copy)]
+impl Kind {
+    pub fn is_handler_of(self, channel: u8) -> bool
+        ensures { result ≡ is_handler_of channel self }
+    {
+        self == Kind::Handler(channel)
+    }
+}
+
+// Its places are plain numbers: the tables are lent, and a caller may have filled them.
+#[derive(Clone, Copy, PartialEq, Eq, Debug)]
 pub struct Row {
     pub kind: Kind,
     // Where the terms of its expression begin, and how many they are.

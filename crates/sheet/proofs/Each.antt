@@ -1,23 +1,9 @@
 -- Levels that are each below a count. Assumes nothing.
-use Rattle.std.proofs.Common.{◌≡◌, ℕ, zero, suc, ◌+◌, ◌<◌, ◌≤◌, true, false, ◌&&◌, ltb, List, [], ◌∷◌, length, get_or, drop, sym, ap, ◌∙◌}
-use Rattle.std.proofs.lemmas.List.{at_drop_more, at_drop_all}
-use Rattle.std.proofs.lemmas.Bool.{and_parts, lt-ltb, le-ltb, ltb-true}
+use Rattle.std.proofs.Common.{◌≡◌, ℕ, zero, suc, ◌<◌, ◌≤◌, true, ltb, List, [], ◌∷◌, get_or}
+use Rattle.std.proofs.lemmas.Bool.{and_parts, ltb-true}
 use Rattle.levels.specs.Scheme.{Levels, Lattice}
 use Rattle.sheet.specs.declared.LevelSheet.{LevelSheet}
 use Rattle.sheet.specs.Sheets.{channel_level, each_below, has_sheet}
-
-module _ (n : ℕ) (xs : List ℕ) (i : ℕ) where
-  next : i < length xs → each_below n (drop i xs) ≡ (ltb (get_or xs i 0) n && each_below n (drop (i + 1) xs))
-  next lt = at_drop_more (each_below n) xs i 0 lt
-
-  pub each_below_more : i < length xs → get_or xs i 0 < n → each_below n (drop i xs) ≡ each_below n xs → each_below n (drop (i + 1) xs) ≡ each_below n xs
-  each_below_more lt level old = sym (next lt ∙ ap (λ b. b && each_below n (drop (i + 1) xs)) (lt-ltb _ _ level)) ∙ old
-
-  pub each_below_stops : i < length xs → n ≤ get_or xs i 0 → each_below n (drop i xs) ≡ each_below n xs → false ≡ each_below n xs
-  each_below_stops lt none old = sym (next lt ∙ ap (λ b. b && each_below n (drop (i + 1) xs)) (le-ltb _ _ none)) ∙ old
-
-  pub each_below_all : length xs ≤ i → each_below n (drop i xs) ≡ each_below n xs → true ≡ each_below n xs
-  each_below_all le old = sym (at_drop_all (each_below n) xs i le) ∙ old
 
 -- what stands at any place is below the count, past the end too
 pub each_below_at : (n : ℕ) (xs : List ℕ) → 1 ≤ n → each_below n xs ≡ true → (k : ℕ) → get_or xs k 0 < n

@@ -1,5 +1,6 @@
 -- The levels that a sheet gives to channels and variables. Assumes nothing.
-use Rattle.std.specs.Prelude.{ℕ, Bool, true, cond, ◌&&◌, List, [], ◌∷◌, replicate, Ok, Err, Result, nat_lt, slice_index}
+use Rattle.std.specs.Prelude.{ℕ, Bool, cond, ◌&&◌, List, replicate, Ok, Err, Result, nat_lt, slice_index}
+use Rattle.std.specs.List.{list_all}
 use Rattle.fault.specs.declared.Fault.{Fault}
 use Rattle.fault.specs.declared.Reason.TheVariants as reason
 use Rattle.fault.specs.Faults.{unplaced}
@@ -15,8 +16,7 @@ channel_level sheet channel = slice_index sheet.channels channel
 
 -- each of these is one of n levels
 abbrev pub each_below : ℕ → List ℕ → Bool
-each_below n [] = true
-each_below n (x ∷ xs) = nat_lt x n && each_below n xs
+each_below n xs = list_all (λ x. nat_lt x n) xs
 
 -- the scheme has every level of the sheet
 abbrev pub has_sheet : Levels → LevelSheet → Bool

@@ -7,7 +7,7 @@ ghost use Rattle.sheet.specs.Sheets.{uniform, channel_level, each_below, checked
 use fault::{Fault, Reason};
 use levels::Scheme;
 
-#[derive(Clone, Copy)]
+#[derive(Clone, Copy, PartialEq, Eq, Debug)]
 pub struct LevelSheet {
     pub channels: [u8; 32],
     pub variables: [u8; 16],
@@ -28,10 +28,7 @@ impl LevelSheet {
     pub fn channel_level(&self, channel: u8) -> u8
         ensures { result ≡ channel_level self.now channel }
     {
-        match self.channels.get(channel as usize) {
-            Some(level) => *level,
-            None => 0,
-        }
+        self.channels.get(channel as usize).copied().unwrap_or(0)
     }
 
     // Refused where the scheme lacks a level of the sheet.
@@ -50,10 +47,5 @@ impl LevelSheet {
 fn each_below(count: u8, levels: &[u8]) -> bool
     ensures { result ≡ each_below count levels.now }
 {
-    for &level in levels {
-        if level >= count {
-            return false;
-        }
-    }
-    true
+    levels.iter().all(|level| *level < count)
 }

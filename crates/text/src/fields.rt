@@ -54,8 +54,8 @@ impl<'a> Fields<'a> {
         letter.ok_or(places::placed(Reason::Letter, self.line, 1))
     }
 
-    #[tactic(auto, using(crate::proofs::Forms::number_is_by_bytes))]
     // The field at a place, which is a number from `low` to `high`.
+    #[tactic(auto, using(crate::proofs::Forms::number_is_by_bytes))]
     pub fn number(&mut self, place: u8, low: u32, high: u32) -> Result<u32, Fault>
         ensures value { result ≡ read_number (line_of self.old) place low high (left_of self.old) }
         ensures range { IfOk result (λ n. (low ≤ n) × (n ≤ high)) }

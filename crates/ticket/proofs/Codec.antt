@@ -11,8 +11,8 @@ decoded_encoded t p = search rules
 
 accepted_if : (b d : Bool) (t u : Ticket) (e f : Fault) → ◌≡◌ {A = Result Ticket Fault} (cond b (cond d (Ok t) (Err e)) (Err f)) (Ok u) → (b ≡ true) × (d ≡ true) × (t ≡ u)
 accepted_if true true t u e f q = (refl, refl, cc)
-accepted_if true false t u e f q = let z : ◌≡◌ {A = ℕ} 0 1 = cc in absurd (omega arith)
-accepted_if false d t u e f q = let z : ◌≡◌ {A = ℕ} 0 1 = cc in absurd (omega arith)
+accepted_if true false t u e f q = cc
+accepted_if false d t u e f q = cc
 
 -- the four bytes of a value
 bytes_of_value : (a b c d : ℕ) → a < 256 → b < 256 → c < 256 → d < 256

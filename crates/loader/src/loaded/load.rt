@@ -41,16 +41,14 @@ impl<'a> Program<'a> {
         if rows.len() < ROW_LIMIT || terms.len() < TERM_LIMIT {
             return Err(Fault::unplaced(Reason::Slip));
         }
-        match extents_of(rows, terms) {
-            Some((count, used)) => {
-                *self = Program {
-                    rows: &rows[..count],
-                    terms: &terms[..used],
-                };
-                Ok(())
-            }
-            None => Err(Fault::unplaced(Reason::Nest)),
-        }
+        let Some((count, used)) = extents_of(rows, terms) else {
+            return Err(Fault::unplaced(Reason::Nest));
+        };
+        *self = Program {
+            rows: &rows[..count],
+            terms: &terms[..used],
+        };
+        Ok(())
     }
 }
 

@@ -6,10 +6,11 @@ use Rattle.interpreter.proofs.job.Job.send.Goals as goal
 
 pub returns-then-is_full : goal.returns-then-is_full
 returns-then-is_full c =
-    full_stalls c.args.self.now c.args.channel (expression_at c.args.terms.now c.args.row) c.requires.ready (eqb-true c.args.self.now.made 16 (sym c.if-is_full.ensures))
+    full_stalls c.args.self.now c.args.channel (expression_at c.args.terms.now c.args.row) _ (eqb-true c.args.self.now.made 16 (sym c.if-is_full.ensures))
 
 pub returns : goal.returns
 returns c =
-    let spend = c.if-not-spend.ensures in
-    let room : c.args.self.now.made < 16 = omega (arith, c.requires.ready.room, eqb-false c.args.self.now.made 16 (sym c.if-is_full.ensures)) in
-    output_runs c.args.self.now c.spend.new.self c.requires.ready spend.job spend.due room c.args.channel c.evaluate-value.result (expression_at c.args.terms.now c.args.row) c.evaluate-value.ensures
+    let spend = c.in_ok-spend.ensures in
+    let few : c.args.self.now.made < 16 = omega (arith, eqb-false c.args.self.now.made 16 (sym c.if-is_full.ensures)) in
+    output_runs c.args.self.now c.spend.new.self spend.job spend.due few
+    c.args.channel c.evaluate-value.result (expression_at c.args.terms.now c.args.row) _ c.evaluate-value.ensures
