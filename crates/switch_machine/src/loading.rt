@@ -1,11 +1,12 @@
 // Putting the lines of a switch sheet into a machine.
-ghost use Rattle.std.specs.Prelude.{◌≡◌, true, []};
-ghost use Rattle.std.specs.List.{AllByRecursion};
+ghost use Rattle.std.specs.Prelude.{◌≡◌, ◌≤◌, true, [], length};
+ghost use Rattle.std.specs.List.{All};
+ghost use Rattle.switch.specs.Reading.{sheet_limit};
 ghost use Rattle.switch.specs.Writing.{Fit};
 ghost use Rattle.switch_machine.specs.Loading.{loading, Holds, LeftByText};
-ghost use Rattle.switch_machine.specs.Sound.{is_made, is_fit, all_fit, is_blank, all_blank, is_left};
+ghost use Rattle.switch_machine.specs.Sound.{is_made, is_fit, all_fit, all_blank, is_left};
 
-use super::Switch;
+use crate::Switch;
 use fault::{Fault, Reason};
 use switch::{SHEET_LIMIT, SwitchLine};
 
@@ -26,10 +27,7 @@ impl<'a> Switch<'a> {
         if lines.len() < SHEET_LIMIT {
             return Err(Fault::unplaced(Reason::Slip));
         }
-        if !all_fit(lines) {
-            return Err(Fault::unplaced(Reason::Nest));
-        }
-        if !all_blank(&lines[SHEET_LIMIT..]) {
+        if !is_left(lines) {
             return Err(Fault::unplaced(Reason::Nest));
         }
         self.lines = lines;
@@ -37,27 +35,26 @@ impl<'a> Switch<'a> {
     }
 }
 
+// Lines of a sheet, and blanks past the most that a sheet has.
+fn is_left(lines: &[SwitchLine]) -> bool
+    requires { sheet_limit ≤ length lines.now }
+    ensures value { result ≡ is_left lines.now }
+    ensures fit { result ≡ true → All Fit lines.now }
+{
+    all_fit(lines) && all_blank(&lines[SHEET_LIMIT..])
+}
+
 fn all_fit(lines: &[SwitchLine]) -> bool
     ensures value { result ≡ all_fit lines.now }
-    ensures fit { result ≡ true → AllByRecursion Fit lines.now }
+    ensures fit { result ≡ true → All Fit lines.now }
 {
-    for line in lines {
-        if !is_fit(*line) {
-            return false;
-        }
-    }
-    true
+    lines.iter().all(|line| is_fit(*line))
 }
 
 fn all_blank(lines: &[SwitchLine]) -> bool
     ensures { result ≡ all_blank lines.now }
 {
-    for line in lines {
-        if !is_blank(line) {
-            return false;
-        }
-    }
-    true
+    lines.iter().all(|line| *line == SwitchLine::BLANK)
 }
 
 // A line that a sheet may hold.
@@ -65,17 +62,7 @@ fn is_fit(line: SwitchLine) -> bool
     ensures value { result ≡ is_fit line }
     ensures fit { result ≡ true → Fit line }
 {
-    // Each field is read: what is read is known to fit its type.
-    let SwitchLine {
-        state: _state,
-        channel,
-        low,
-        high,
-        next: _next,
-        out,
-        value,
-    } = line;
-    channel < 16 && low <= high && is_made(out, value)
+    line.channel < 16 && line.low <= line.high && is_made(line.out, line.value)
 }
 
 fn is_made(out: Option<u8>, value: u32) -> bool
@@ -85,16 +72,4 @@ fn is_made(out: Option<u8>, value: u32) -> bool
         None => value == 0,
         Some(channel) => 16 <= channel && channel <= 31,
     }
-}
-
-fn is_blank(line: &SwitchLine) -> bool
-    ensures { result ≡ is_blank line.now }
-{
-    line.state == 0
-        && line.channel == 0
-        && line.low == 0
-        && line.high == 0
-        && line.next == 0
-        && line.out.is_none()
-        && line.value == 0
 }

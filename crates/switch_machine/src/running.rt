@@ -3,7 +3,7 @@ ghost use Rattle.std.specs.Prelude.{◌≡◌};
 ghost use Rattle.switch_machine.specs.Switching.{fits, first_fit, switched};
 ghost use Rattle.switch_machine.specs.Lawful.{switched_lawful};
 
-use super::Switch;
+use crate::Switch;
 use machine::{Machine, Reaction, Slip, Words};
 use switch::SwitchLine;
 use ticket::Ticket;
@@ -42,12 +42,7 @@ impl<'a> Machine for Switch<'a> {
 fn first_fit(lines: &[SwitchLine], state: u32, ticket: Ticket) -> Option<SwitchLine>
     ensures { result ≡ first_fit state ticket lines.now }
 {
-    for line in lines {
-        if fits(line, state, ticket) {
-            return Some(*line);
-        }
-    }
-    None
+    lines.iter().copied().find(|line| fits(line, state, ticket))
 }
 
 // A state above 255 fits no line.
