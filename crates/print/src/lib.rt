@@ -9,7 +9,7 @@ use fault::Fault;
 use itoa::Buffer;
 use std::alloc::AllocError;
 
-// The words that lines are printed with. No Display: what `write!` leaves where memory runs out, std does not say.
+// The words that lines are printed with. By bytes and not by Display: std says nothing of what a failed `write!` leaves.
 #[derive(Clone, Copy, PartialEq, Eq, Debug)]
 pub enum Keyword {
     In,
@@ -60,7 +60,7 @@ pub fn put_line(out: &mut Vec<u8>, word: Keyword, entries: &[Entry]) -> Result<(
     put_rest(out, entries)
 }
 
-// The refusal of a part of the input.
+// The refusal of a part of the input. The part is a number, as each program has parts of its own.
 pub fn put_fault(out: &mut Vec<u8>, part: u8, fault: Fault) -> Result<(), AllocError>
     ensures { Appends out.old (fault_line part fault) result out.new }
 {
