@@ -5,6 +5,7 @@ ghost use Rattle.text.specs.Fields.{bytes_of, form_of, form_in, letter_of, numbe
 use crate::classes::Class;
 use crate::{classes, numbers};
 
+// Letters stay characters: what they mean is for each reader to say.
 #[derive(Clone, Copy, PartialEq, Eq, Debug)]
 pub enum Field<'a> {
     Letter(char),
