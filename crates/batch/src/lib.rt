@@ -11,6 +11,7 @@ use sheet::LevelSheet;
 use ticket::Ticket;
 
 // The least level at or above every ticket in the bytes, and the lowest level for none.
+// Scheme and sheet are two parameters, since a sheet that the scheme lacks levels for is refused here.
 pub fn level_of_batch<S: Scheme>(scheme: &S, sheet: &LevelSheet, bytes: &[u8]) -> Result<u8, Fault>
     ensures value { result ≡ batch_level (S.levels scheme.now) sheet.now bytes.now }
     ensures least { Levelled (S.levels scheme.now) sheet.now bytes.now result }
@@ -29,9 +30,8 @@ fn join_tickets<S: Scheme>(scheme: &S, sheet: &LevelSheet, bytes: &[u8]) -> Resu
     let mut level = scheme.lowest();
     for record in bytes.chunks_exact(8) {
         let ticket = Ticket::decode(record)?;
-        // Both are levels, so there is a join.
         let join = scheme.join(level, sheet.channel_level(ticket.channel));
-        level = join.unwrap_or(level);
+        level = join.unwrap();
     }
     Ok(level)
 }

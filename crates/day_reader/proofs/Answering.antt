@@ -1,6 +1,7 @@
 -- What follows of a call that appended the records of a text, or stopped. Assumes nothing.
-use Rattle.std.proofs.Common.{◌≡◌, ℕ, ◌+◌, ◌*◌, ◌≤◌, List, take, Ok, Err, vec_items, vec_len, vec_capacity, Result, Vec, sym, ap, ◌∙◌, arith}
+use Rattle.std.proofs.Common.{◌≡◌, ℕ, ◌+◌, ◌*◌, ◌≤◌, List, take, Ok, Err, true, vec_items, vec_len, vec_capacity, Result, Vec, sym, ap, ◌∙◌, arith}
 use Rattle.std.proofs.lemmas.List.{take_at}
+use Rattle.std.specs.Result.{is_err}
 use Rattle.std.specs.declared.alloc.Global.{Global}
 use Rattle.fault.proofs.Then.{ok_not_err}
 use Rattle.parts.specs.Parts.{feeds}
@@ -13,8 +14,9 @@ use Rattle.day_reader.proofs.Records.{length_records}
 
 module _ (t : List ℕ) (old : Vec ℕ Global) where
   -- what stood before is as it was once the list is as long again
-  pub truncated : (e : DayError) (mid new : Vec ℕ Global) → Appended t old (Err e) mid → vec_items new ≡ take (vec_len old) (vec_items mid) → Reads t old (Err e) new
-  truncated e mid new (stops, more) cut =
+  pub truncated : (r : Result (Unit {0}) DayError) (mid new : Vec ℕ Global) → is_err r ≡ true → Appended t old r mid → vec_items new ≡ take (vec_len old) (vec_items mid) → Reads t old r new
+  truncated (Ok u) mid new failed h cut = absurd cc
+  truncated (Err e) mid new failed (stops, more) cut =
       (stops, cut ∙ ap (take (vec_len old)) more.1 ∙ take_at (vec_items old) more.0 (vec_len old) (omega (arith, old.ok.0)))
 
   -- room for a record to each line feed is room enough

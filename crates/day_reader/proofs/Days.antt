@@ -1,7 +1,8 @@
 -- Reading a day inverts writing it, and counts its lines. Assumes nothing.
-use Rattle.std.proofs.Common.{◌≡◌, ℕ, ◌+◌, ◌≤◌, true, cond, leb, List, [], ◌∷◌, ◌++◌, map, length, Ok, Err, sym, refl, ap, ◌∙◌, subst, append_assoc, append-nil, zero-add, arith}
+use Rattle.std.proofs.Common.{◌≡◌, ℕ, ◌+◌, ◌≤◌, true, cond, eqb, leb, List, [], ◌∷◌, ◌++◌, map, length, Ok, Err, sym, refl, ap, ◌∙◌, subst, append_assoc, append-nil, zero-add, arith}
 use Rattle.std.proofs.ByRecursion.{All-weaker, All-map}
 use Rattle.std.proofs.lemmas.Bool.{leb-true, le-leb}
+use Rattle.std.proofs.lemmas.List.Sums.{sum_by-cons}
 use Rattle.std.specs.List.{AllByRecursion}
 use Rattle.fault.specs.declared.Reason.TheVariants as reason
 use Rattle.fault.specs.Faults.{unplaced}
@@ -65,14 +66,14 @@ reading_inverts_writing t hs = (reading_is_written t hs, written_is_reading t hs
 -- a line feed for each hand-in
 free_feeds : (p t : List ℕ) → Free 10 p → feeds (p ++ t) ≡ feeds t
 free_feeds [] t f = refl
-free_feeds (b ∷ p) t f = ap (λ x. cond x 1 0 + feeds (p ++ t)) f.0 ∙ zero-add (feeds (p ++ t)) ∙ free_feeds p t f.1
+free_feeds (b ∷ p) t f = sum_by-cons (λ x. cond (eqb x 10) 1 0) b (p ++ t) ∙ ap (λ x. cond x 1 0 + feeds (p ++ t)) f.0 ∙ zero-add (feeds (p ++ t)) ∙ free_feeds p t f.1
 
 pub feeds_written : (hs : List HandIn) (t : List ℕ) → AllByRecursion Fit hs → feeds (written hs ++ t) ≡ length hs + feeds t
 feeds_written [] t f = sym (zero-add (feeds t))
 feeds_written (h ∷ hs) t f =
     let r = feeds_written hs t f.1 in
     let e : feeds (written (h ∷ hs) ++ t) ≡ 1 + feeds (written hs ++ t) =
-    ap feeds (append_assoc (line_bytes h) (10 ∷ written hs) t) ∙ free_feeds (line_bytes h) (10 ∷ (written hs ++ t)) (line_is_free h f.0) in
+    ap feeds (append_assoc (line_bytes h) (10 ∷ written hs) t) ∙ free_feeds (line_bytes h) (10 ∷ (written hs ++ t)) (line_is_free h f.0) ∙ sum_by-cons (λ x. cond (eqb x 10) 1 0) 10 (written hs ++ t) in
     omega arith
 
 pub reading_counts_lines : ReadingCountsLines

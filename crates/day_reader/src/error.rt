@@ -5,7 +5,7 @@ ghost use Rattle.day_reader.specs.declared.error.DayError.TheVariants.{Refused, 
 use fault::Fault;
 use std::alloc::AllocError;
 
-#[derive(Clone, Copy)]
+#[derive(Clone, Copy, PartialEq, Eq, Debug)]
 pub enum DayError {
     // The text is the writing of no day.
     Refused(Fault),

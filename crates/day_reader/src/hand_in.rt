@@ -3,7 +3,7 @@ ghost use Rattle.std.specs.Prelude.{◌≡◌};
 ghost use Rattle.ticket.specs.Tickets.{decoded_in};
 ghost use Rattle.day_reader.specs.HandIns.{record_of, ticket_if_known};
 
-#[derive(Clone, Copy)]
+#[derive(Clone, Copy, PartialEq, Eq, Debug)]
 pub struct HandIn {
     pub channel: u8,
     pub value: u32,

@@ -9,15 +9,14 @@ ghost use Rattle.day_reader.specs.Appending.{answer, Appended, Reads, Accepts};
 use crate::error::DayError;
 use crate::hand_in::HandIn;
 use fault::{Fault, Reason};
-use text::{Fields, TEXT_LIMIT, next_line, placed};
+use text::{Fields, Line, Lines};
 
-// One line, whose number is given.
-fn read_line(line: &[u8], number: u16) -> Result<HandIn, Fault>
-    ensures { result ≡ line_in number (pieces 44 line.now) }
+fn read_line(line: Line<'_>) -> Result<HandIn, Fault>
+    ensures { result ≡ line_in line.entry.number (pieces 44 line.entry.bytes.now) }
 {
-    let mut fields = Fields::new(line, number);
+    let mut fields = Fields::new(line);
     let 'D' = fields.letter()? else {
-        return Err(placed(Reason::Letter, number, 1));
+        return Err(line.fault(Reason::Letter, 1));
     };
     let channel = fields.byte(2, 0, 255)?;
     let value = fields.number(3, 0, u32::MAX)?;
@@ -30,21 +29,11 @@ fn append_records(text: &[u8], records: &mut Vec<u8>) -> Result<(), DayError>
     ensures records { Appended text.now records.old result records.new }
     ensures capacity { vec_capacity records.old ≤ vec_capacity records.new }
 {
-    if text.len() > TEXT_LIMIT {
-        return Err(DayError::Refused(Fault::unplaced(Reason::Overlong)));
-    }
-    let mut left = text;
-    let mut count: u16 = 0;
-    loop {
-        let number = count + 1;
-        let Some((line, rest)) = next_line(left, number)? else {
-            return Ok(());
-        };
-        let hand_in = read_line(line, number)?;
+    for line in Lines::new(text)? {
+        let hand_in = read_line(line?)?;
         records.extend_from_slice(&hand_in.record())?;
-        count = number;
-        left = rest;
     }
+    Ok(())
 }
 
 // Appends the record of each line of the day that a text is the writing of; else the records are as they were.
@@ -55,13 +44,11 @@ pub fn read_day(text: &[u8], records: &mut Vec<u8>) -> Result<(), DayError>
     ensures capacity { vec_capacity records.old ≤ vec_capacity records.new }
 {
     let before = records.len();
-    match append_records(text, records) {
-        Ok(()) => Ok(()),
-        Err(error) => {
-            records.truncate(before);
-            Err(error)
-        }
+    let read = append_records(text, records);
+    if read.is_err() {
+        records.truncate(before);
     }
+    read
 }
 
 // A theorem: a text is read as some hand-ins exactly if it is the writing of them, and they make a day.

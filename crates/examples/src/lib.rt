@@ -49,7 +49,10 @@ mod tests {
         assert!(rt; !parties.at_or_below(1, 2));
         let four = Chain::new(4)?;
         assert_eq!(rt; Pair::new(four, four)?.count(), 16);
-        assert!(rt; Pair::new(four, Chain::new(5)?).is_err());
+        assert_eq!(rt;
+            Pair::new(four, Chain::new(5)?),
+            Err(Fault::unplaced(Reason::Level))
+        );
         Ok(())
     }
 }

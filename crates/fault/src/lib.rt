@@ -24,6 +24,7 @@ pub enum Reason {
 }
 
 impl Reason {
+    // A name tells more than a conversion: it is the number that is printed.
     pub fn number(self) -> u8
         ensures { result ≡ number_of self }
     {
@@ -31,6 +32,7 @@ impl Reason {
     }
 }
 
+// Line and field are numbers, and no Option, as they are printed: 0 outside a text.
 #[derive(Clone, Copy, PartialEq, Eq, Debug)]
 pub struct Fault {
     pub reason: Reason,
@@ -39,7 +41,6 @@ pub struct Fault {
 }
 
 impl Fault {
-    // Outside a text, line and field are 0.
     pub fn unplaced(reason: Reason) -> Fault
         ensures { result ≡ unplaced reason }
     {

@@ -2,7 +2,7 @@
 ghost use Rattle.std.specs.Prelude.{◌≡◌};
 ghost use Rattle.flat_form.specs.Fitting.{fits_term, expressed, fits_kind};
 
-use program::{EXPRESSION_LIMIT, Kind, Term, arity};
+use program::{EXPRESSION_LIMIT, Kind, Term};
 
 fn fits_term(term: Term) -> bool
     ensures { result ≡ fits_term term }
@@ -26,7 +26,7 @@ fn is_expression(terms: &[Term]) -> bool
         if lacking == 0 || !fits_term(term) {
             return false;
         }
-        lacking = lacking - 1 + arity(term);
+        lacking = lacking - 1 + term.arity();
     }
     lacking == 0
 }

@@ -19,6 +19,7 @@ use sheet::LevelSheet;
 use table::Table;
 
 // Checks a program against the label rule. A refusal names the first row that breaks it.
+// Scheme and sheet are two parameters, since a sheet that the scheme lacks levels for is refused here.
 pub fn check_labels<S: Scheme>(
     scheme: &S,
     sheet: &LevelSheet,

@@ -2,73 +2,57 @@
 #![tactic(auto)]
 
 ghost use Rattle.print.specs.Appending.{Appends};
-ghost use Rattle.scheme_reader.specs.Reading.{levels_of, size_of};
-ghost use Rattle.label_report.specs.Report.{under, not_in_parts, report};
+ghost use Rattle.label_report.specs.Report.{answer_line, program_report, report};
 
-mod of_program;
-
-use crate::of_program::report_program;
-use fault::{Fault, Reason};
+use fault::Fault;
+use label_check::check_labels;
 use levels::Scheme;
-use parts::{cut_part, is_one_line};
-use print::put_fault;
-use scheme_reader::{SchemeChoice, read_scheme};
+use print::{Entry, Keyword, put_fault, put_line};
+use program::{ROW_LIMIT, Row, TERM_LIMIT, Term};
+use program_loader::load_program;
+use scheme_report::{PartReport, report_parts};
 use sheet::LevelSheet;
-use sheet_reader::read_sheet;
 use std::alloc::AllocError;
+
+// The part of the input that holds the program.
+const PROGRAM_PART: u8 = 3;
+
+// The third part is the text of a site program.
+struct Labels;
+
+impl PartReport for Labels {
+    ghost text = { program_report };
+
+    fn report_part<S: Scheme>(
+        out: &mut Vec<u8>,
+        scheme: &S,
+        sheet: &LevelSheet,
+        text: &[u8],
+    ) -> Result<(), AllocError> {
+        let mut rows = [Row::BLANK; ROW_LIMIT];
+        let mut terms = [Term::BLANK; TERM_LIMIT];
+        match load_program(text, &mut rows, &mut terms) {
+            Ok(program) => put_answer(out, check_labels(scheme, sheet, &program)),
+            Err(fault) => put_fault(out, PROGRAM_PART, fault),
+        }
+    }
+}
+
+fn put_answer(out: &mut Vec<u8>, answer: Result<(), Fault>) -> Result<(), AllocError>
+    ensures { Appends out.old (answer_line answer) result out.new }
+{
+    match answer {
+        Ok(()) => put_line(out, Keyword::Labels, &[Entry::Word(Keyword::Pass)]),
+        Err(fault) => {
+            let entries = [Entry::Word(Keyword::Leak), Entry::Number(fault.line as u64)];
+            put_line(out, Keyword::Labels, &entries)
+        }
+    }
+}
 
 // The input is a scheme, a level sheet and a site program, parted by lines `-`.
 pub fn report_labels(out: &mut Vec<u8>, input: &[u8]) -> Result<(), AllocError>
     ensures { Appends out.old (report input.now) result out.new }
 {
-    let (line, rest) = cut_part(input);
-    let Some(rest) = rest else {
-        return put_not_in_parts(out);
-    };
-    let (sheet, program) = cut_part(rest);
-    let Some(program) = program else {
-        return put_not_in_parts(out);
-    };
-    if !is_one_line(line) {
-        return put_not_in_parts(out);
-    }
-    match read_scheme(line) {
-        Ok(choice) => report_choice(out, choice, sheet, program),
-        Err(fault) => put_fault(out, 1, fault),
-    }
-}
-
-fn report_choice(
-    out: &mut Vec<u8>,
-    choice: SchemeChoice,
-    sheet: &[u8],
-    program: &[u8],
-) -> Result<(), AllocError>
-    ensures { Appends out.old (under (levels_of (size_of choice)) sheet.now program.now) result out.new }
-{
-    match choice {
-        SchemeChoice::Chain(chain) => report_under(out, &chain, sheet, program),
-        SchemeChoice::Parties(parties) => report_under(out, &parties, sheet, program),
-    }
-}
-
-fn put_not_in_parts(out: &mut Vec<u8>) -> Result<(), AllocError>
-    ensures { Appends out.old not_in_parts result out.new }
-{
-    put_fault(out, 0, Fault::unplaced(Reason::Field))
-}
-
-fn report_under<S: Scheme>(
-    out: &mut Vec<u8>,
-    scheme: &S,
-    text: &[u8],
-    program: &[u8],
-) -> Result<(), AllocError>
-    ensures { Appends out.old (under (S.levels scheme.now) text.now program.now) result out.new }
-{
-    let mut sheet = LevelSheet::uniform(0);
-    match read_sheet(text, scheme, &mut sheet) {
-        Ok(()) => report_program(out, scheme, &sheet, program),
-        Err(fault) => put_fault(out, 2, fault),
-    }
+    report_parts::<Labels>(out, input)
 }

@@ -40,18 +40,18 @@ impl<P: Scheme, Q: Scheme> Pair<P, Q> {
 
     // The level whose parts are p and q.
     fn level(&self, p: u8, q: u8) -> u8
-        requires left { p < (P.Scheme.levels self.now.left).count }
-        requires right { q < (Q.Scheme.levels self.now.right).count }
-        ensures { result ≡ p * (Q.Scheme.levels self.now.right).count + q }
+        requires left { p < (P.levels self.now.left).count }
+        requires right { q < (Q.levels self.now.right).count }
+        ensures { result ≡ p * (Q.levels self.now.right).count + q }
     {
         p * self.right.count() + q
     }
 }
 
 impl<P: Scheme, Q: Scheme> Scheme for Pair<P, Q> {
-    ghost levels = { λ s. pair (P.Scheme.levels s.left) (Q.Scheme.levels s.right) };
+    ghost levels = { λ s. pair (P.levels s.left) (Q.levels s.right) };
 
-    ghost lattice = { λ s. pair_lawful (P.Scheme.lattice s.left) (Q.Scheme.lattice s.right) };
+    ghost lattice = { λ s. pair_lawful (P.lattice s.left) (Q.lattice s.right) };
 
     fn count(&self) -> u8 {
         self.left.count() * self.right.count()

@@ -1,10 +1,9 @@
 -- The lines of the records of a batch. Assumes nothing.
-use Rattle.std.proofs.Common.{◌≡◌, ℕ, zero, suc, ◌/◌, ◌<◌, List, [], ◌∷◌, ◌++◌, length, take, drop, Ok, Err, Result, sym, ap, ◌∙◌, arith, length-append}
+use Rattle.std.proofs.Common.{◌≡◌, ℕ, zero, suc, ◌/◌, List, [], ◌∷◌, ◌++◌, length, take, drop, Ok, sym, ap, ◌∙◌, arith, length-append}
 use Rattle.std.proofs.lemmas.List.{take_at, drop_at}
 use Rattle.std.specs.List.{flat_map}
-use Rattle.fault.specs.declared.Fault.{Fault}
 use Rattle.fault.specs.Faults.{then}
-use Rattle.fault.proofs.Then.{same_ok, same_err, ok_not_err, then_ok}
+use Rattle.fault.proofs.Then.{same_ok, then_ok}
 use Rattle.levels.specs.Scheme.{Levels}
 use Rattle.sheet.specs.declared.LevelSheet.{LevelSheet}
 use Rattle.sheet.specs.Sheets.{checked}
@@ -13,16 +12,12 @@ use Rattle.ticket.specs.Tickets.{decoded}
 use Rattle.batch.specs.Batches.{tickets_of, batch}
 use Rattle.batch.specs.Level.{level_of, batch_level}
 use Rattle.batch.proofs.Batches.{batch_whole}
-use Rattle.print.specs.Lines.{fault_line}
-use Rattle.listing.specs.Listing.{ticket_line, level_line, tickets_part, told, listing, record_line, first_lines, record_lines}
+use Rattle.listing.specs.Listing.{ticket_line, level_line, told, listing, record_line, first_lines, record_lines}
 
 pub record_lines_more : (bytes first rest : List ℕ) → bytes ≡ first ++ rest → length first ≡ 8 → record_lines bytes ≡ record_line (decoded first) ++ record_lines rest
 record_lines_more bytes first rest e long =
     let count : length (first ++ rest) / 8 ≡ suc (length rest / 8) = omega (arith, length-append first rest) in
     rw (e, count, take_at first rest 8 long, drop_at first rest 8 long)
-
-pub record_lines_none : (bytes : List ℕ) → length bytes < 8 → record_lines bytes ≡ []
-record_lines_none bytes short = let none : length bytes / 8 ≡ 0 = omega arith in rw none
 
 -- where all records are tickets, their lines are those of the tickets
 pub lines_of_tickets : (n : ℕ) (bytes : List ℕ) (ts : List Ticket) → tickets_of n bytes ≡ Ok ts → first_lines n bytes ≡ flat_map ticket_line ts
@@ -45,11 +40,3 @@ module _ (L : Levels) (sheet : LevelSheet) (bytes : List ℕ) where
       ∙ ap (told L sheet) read.1
       ∙ ap (λ xs. xs ++ level_line (level_of L sheet ts)) (sym (lines_of_tickets (length bytes / 8) bytes ts (batch_whole bytes ts read.1).1))
       ∙ ap (λ n. record_lines bytes ++ level_line n) (same_ok (level_of L sheet ts) j read.2)
-
-  refused_by : (known : Result (Unit {0}) Fault) (read : Result (List Ticket) Fault) (f : Fault) → then known (λ _. then read (λ ts. Ok (level_of L sheet ts))) ≡ Err f → told L sheet (then known (λ _. read)) ≡ fault_line tickets_part f
-  refused_by (Ok u) (Ok ts) f e = absurd (ok_not_err _ f e)
-  refused_by (Ok u) (Err g) f e = ap (fault_line tickets_part) (same_err {X = ℕ} g f e)
-  refused_by (Err g) read f e = ap (fault_line tickets_part) (same_err {X = ℕ} g f e)
-
-  pub listing_refused : (f : Fault) → batch_level L sheet bytes ≡ Err f → listing L sheet bytes ≡ fault_line tickets_part f
-  listing_refused f e = refused_by (checked L sheet) (batch bytes) f e

@@ -9,10 +9,10 @@ use ticket::Ticket;
 // The state of a run.
 pub type Words = [u32; 16];
 
-// Room for the tickets of one reaction.
+// Room for the tickets of one reaction. An array, since a machine has no heap and leaves what lies beyond its tickets.
 pub type Slip = [Ticket; 16];
 
-// How a reaction went: the tickets made, the steps taken, and whether it stalled before its end.
+// How a reaction went: the tickets made and the steps taken, which stand either way, and whether it stalled before its end.
 #[derive(Clone, Copy, PartialEq, Eq, Debug)]
 pub struct Reaction {
     pub made: usize,

@@ -1,68 +1,54 @@
--- One byte more in search of a line `-`. Assumes nothing.
-use Rattle.std.proofs.Common.{◌≡◌, ℕ, ◌+◌, ◌<◌, ◌≤◌, Bool, true, false, cond, eqb, leb, List, [], ◌∷◌, ◌++◌, length, get_or, take, drop, Some, None, sym, ap, ◌∙◌, zero-add, arith}
-use Rattle.std.proofs.lemmas.List.{drop_more, take_more, append_assoc, append-nil, drop-drop, drop_all, take_all, take-append-drop, get_or-drop, length-drop}
-use Rattle.std.proofs.lemmas.Bool.{and_parts, leb-true, eqb-true, eq-eqb, ne_eqb}
-use Rattle.parts.specs.Parts.{is_mark, before_mark, after_mark, feeds}
+-- Where the first line `-` stands. Assumes nothing.
+use Rattle.std.proofs.Common.{◌≡◌, ℕ, zero, suc, ◌+◌, ◌<◌, ◌≤◌, Bool, true, false, cond, eqb, List, [], ◌∷◌, length, take, drop, Some, None, sym, refl, ap, ◌∙◌, arith}
+use Rattle.std.proofs.lemmas.Grind.{common_steps}
+use Rattle.std.proofs.lemmas.Bool.Decides.{nat_tests}
+use native.Mathlib.Numerals.{unary_clauses}
+use Rattle.parts.specs.Parts.{is_mark, is_mark_at, before_mark, after_mark}
 
-module _ (text : List ℕ) (i : ℕ) (start : Bool) (lt : i < length text) where
-  here : drop i text ≡ get_or text i 0 ∷ drop (i + 1) text
-  here = drop_more text i 0 lt
+-- no line `-` stands behind a line feed in front of n
+abbrev pub Free : List ℕ → ℕ → Type 0
+Free text n = (k : ℕ) → k < n → k + 3 ≤ length text → is_mark_at text k ≡ false
 
-  before_next : before_mark start (drop i text) ≡ cond (is_mark start (drop i text)) [] (get_or text i 0 ∷ before_mark (eqb (get_or text i 0) 10) (drop (i + 1) text))
-  before_next = ap (before_mark start) here ∙ ap (λ xs. cond (is_mark start xs) [] (get_or text i 0 ∷ before_mark (eqb (get_or text i 0) 10) (drop (i + 1) text))) (sym here)
+mark_here : (b : ℕ) (bs : List ℕ) → 2 ≤ length bs → is_mark (eqb b 10) bs ≡ is_mark_at (b ∷ bs) 0
+mark_here b bs long = grind (arith, common_steps, nat_tests)
 
-  after_next : after_mark start (drop i text) ≡ cond (is_mark start (drop i text)) (Some (drop 1 (drop (i + 1) text))) (after_mark (eqb (get_or text i 0) 10) (drop (i + 1) text))
-  after_next = ap (after_mark start) here ∙ ap (λ xs. cond (is_mark start xs) (Some (drop 1 (drop (i + 1) text))) (after_mark (eqb (get_or text i 0) 10) (drop (i + 1) text))) (sym here)
+no_mark_here : (b : ℕ) (bs : List ℕ) (n : ℕ) → Free (b ∷ bs) (suc n) → is_mark (eqb b 10) bs ≡ false
+no_mark_here b bs n free = grind (arith, common_steps, nat_tests, mark_here, free 0)
 
-  module _ (no_mark : is_mark start (drop i text) ≡ false) where
-    pub before_more : before_mark true text ≡ take i text ++ before_mark start (drop i text) → before_mark true text ≡ take (i + 1) text ++ before_mark (eqb (get_or text i 0) 10) (drop (i + 1) text)
-    before_more old =
-        old
-        ∙ ap (λ xs. take i text ++ xs) (before_next ∙ ap (λ b. cond b [] (get_or text i 0 ∷ before_mark (eqb (get_or text i 0) 10) (drop (i + 1) text))) no_mark)
-        ∙ sym (ap (λ xs. xs ++ before_mark (eqb (get_or text i 0) 10) (drop (i + 1) text)) (take_more text i 0 lt) ∙ append_assoc (take i text) (get_or text i 0 ∷ []) _)
+mark_next : (b : ℕ) (bs : List ℕ) (k : ℕ) → is_mark_at (b ∷ bs) (suc k) ≡ is_mark_at bs k
+mark_next b bs k = simp unary_clauses
 
-    pub after_more : after_mark true text ≡ after_mark start (drop i text) → after_mark true text ≡ after_mark (eqb (get_or text i 0) 10) (drop (i + 1) text)
-    after_more old = old ∙ after_next ∙ ap (λ b. cond b (Some (drop 1 (drop (i + 1) text))) (after_mark (eqb (get_or text i 0) 10) (drop (i + 1) text))) no_mark
+free_next : (b : ℕ) (bs : List ℕ) (n : ℕ) → Free (b ∷ bs) (suc n) → Free bs n
+free_next b bs n free k lt long = sym (mark_next b bs k) ∙ free (suc k) (omega arith) (omega arith)
 
-  module _ (mark : is_mark start (drop i text) ≡ true) where
-    pub before_found : before_mark true text ≡ take i text ++ before_mark start (drop i text) → take i text ≡ before_mark true text
-    before_found old =
-        sym (old ∙ ap (λ xs. take i text ++ xs) (before_next ∙ ap (λ b. cond b [] (get_or text i 0 ∷ before_mark (eqb (get_or text i 0) 10) (drop (i + 1) text))) mark) ∙ append-nil (take i text))
+module _ (start : Bool) (b : ℕ) (bs : List ℕ) where
+  before_next : is_mark start (b ∷ bs) ≡ false → before_mark start (b ∷ bs) ≡ b ∷ before_mark (eqb b 10) bs
+  before_next none = ap (λ t. cond t [] (b ∷ before_mark (eqb b 10) bs)) none
 
-    rest_is : drop 1 (drop (i + 1) text) ≡ drop (i + 2) text
-    rest_is = drop-drop 1 (i + 1) text ∙ ap (λ n. drop n text) (omega arith)
+  after_next : is_mark start (b ∷ bs) ≡ false → after_mark start (b ∷ bs) ≡ after_mark (eqb b 10) bs
+  after_next none = ap (λ t. cond t (Some (drop 1 bs)) (after_mark (eqb b 10) bs)) none
 
-    pub after_found : after_mark true text ≡ after_mark start (drop i text) → Some (drop (i + 2) text) ≡ after_mark true text
-    after_found old =
-        sym (old ∙ after_next ∙ ap (λ b. cond b (Some (drop 1 (drop (i + 1) text))) (after_mark (eqb (get_or text i 0) 10) (drop (i + 1) text))) mark ∙ ap Some rest_is)
+  before_here : is_mark start (b ∷ bs) ≡ true → before_mark start (b ∷ bs) ≡ []
+  before_here mark = ap (λ t. cond t [] (b ∷ before_mark (eqb b 10) bs)) mark
 
-    pub whole_found : text ≡ take i text ++ 45 ∷ 10 ∷ drop (i + 2) text
-    whole_found =
-        let long = and_parts (leb 2 (length (drop i text))) _ (and_parts start _ mark).1 in
-        let room = leb-true 2 (length (drop i text)) long.0 in
-        let parts = and_parts (eqb (get_or (drop i text) 0 0) 45) _ long.1 in
-        let dash : get_or text i 0 ≡ 45 = ap (λ n. get_or text n 0) (omega arith) ∙ sym (get_or-drop i text 0 0) ∙ eqb-true _ _ parts.0 in
-        let feed : get_or text (i + 1) 0 ≡ 10 = sym (get_or-drop i text 1 0) ∙ eqb-true _ _ parts.1 in
-        let next : drop (i + 1) text ≡ get_or text (i + 1) 0 ∷ drop (i + 1 + 1) text = drop_more text (i + 1) 0 (omega (arith, length-drop i text)) in
-        sym (take-append-drop i text)
-        ∙ ap (λ xs. take i text ++ xs) (here ∙ ap (λ x. x ∷ drop (i + 1) text) dash ∙ ap (λ xs. 45 ∷ xs) (next ∙ ap (λ x. x ∷ drop (i + 1 + 1) text) feed ∙ ap (λ n. 10 ∷ drop n text) (omega arith)))
+  after_here : is_mark start (b ∷ bs) ≡ true → after_mark start (b ∷ bs) ≡ Some (drop 1 bs)
+  after_here mark = ap (λ t. cond t (Some (drop 1 bs)) (after_mark (eqb b 10) bs)) mark
 
-module _ (text : List ℕ) (i : ℕ) (start : Bool) (le : length text ≤ i) where
-  pub before_all : before_mark true text ≡ take i text ++ before_mark start (drop i text) → text ≡ before_mark true text
-  before_all old =
-      sym (old ∙ ap (λ xs. take i text ++ before_mark start xs) (drop_all i text le) ∙ append-nil (take i text) ∙ take_all i text le)
+-- the first line `-` stands behind the line feed at i
+pub found : (bs : List ℕ) (start : Bool) (i : ℕ) → is_mark start bs ≡ false → Free bs i → i + 3 ≤ length bs → is_mark_at bs i ≡ true
+    → (before_mark start bs ≡ take (i + 1) bs) × (after_mark start bs ≡ Some (drop (i + 3) bs))
+found [] start i none free long mark = absurd (omega arith)
+found (b ∷ []) start i none free long mark = absurd (omega arith)
+found (b ∷ c ∷ bs) start zero none free long mark =
+    let here = mark_here b (c ∷ bs) (omega arith) ∙ mark in
+    (before_next start b (c ∷ bs) none ∙ ap (λ xs. b ∷ xs) (before_here (eqb b 10) c bs here), after_next start b (c ∷ bs) none ∙ after_here (eqb b 10) c bs here)
+found (b ∷ c ∷ bs) start (suc i) none free long mark =
+    let rest = found (c ∷ bs) (eqb b 10) i (no_mark_here b (c ∷ bs) i free) (free_next b (c ∷ bs) i free) (omega arith) (sym (mark_next b (c ∷ bs) i) ∙ mark) in
+    (before_next start b (c ∷ bs) none ∙ ap (λ xs. b ∷ xs) rest.0 ∙ simp unary_clauses, after_next start b (c ∷ bs) none ∙ rest.1 ∙ simp unary_clauses)
 
-  pub after_all : after_mark true text ≡ after_mark start (drop i text) → None ≡ after_mark true text
-  after_all old = sym (old ∙ ap (after_mark start) (drop_all i text le))
-
--- one byte more of a count of line feeds
-pub feeds_more : (text : List ℕ) (i : ℕ) → i < length text
-    → (get_or text i 0 ≡ 10 → feeds (drop i text) ≡ 1 + feeds (drop (i + 1) text)) × ((get_or text i 0 ≡ 10 → ⊥) → feeds (drop i text) ≡ feeds (drop (i + 1) text))
-feeds_more text i lt =
-    let next = ap feeds (drop_more text i 0 lt) in (
-      λ e. next ∙ ap (λ b. cond b 1 0 + feeds (drop (i + 1) text)) (eq-eqb (get_or text i 0) 10 e),
-      λ n. next ∙ ap (λ b. cond b 1 0 + feeds (drop (i + 1) text)) (ne_eqb (get_or text i 0) 10 n) ∙ zero-add (feeds (drop (i + 1) text)),
-    )
-
-pub feeds_all : (text : List ℕ) (i : ℕ) → length text ≤ i → feeds (drop i text) ≡ 0
-feeds_all text i le = ap feeds (drop_all i text le)
+-- there is none
+pub missing : (bs : List ℕ) (start : Bool) → is_mark start bs ≡ false → Free bs (length bs) → (before_mark start bs ≡ bs) × (after_mark start bs ≡ None)
+missing [] start none free = (refl, refl)
+missing (b ∷ bs) start none free =
+    let rest = missing bs (eqb b 10) (no_mark_here b bs (length bs) free) (free_next b bs (length bs) free) in
+    (before_next start b bs none ∙ ap (λ xs. b ∷ xs) rest.0, after_next start b bs none ∙ rest.1)

@@ -40,7 +40,3 @@ module _ (old : Vec ℕ Global) (bytes part rest : List ℕ) (e : bytes ≡ part
 
   pub appends_first : (new : Vec ℕ Global) (f : AllocError) (r : Result (Unit {0}) AllocError) → is_err r ≡ true → Appends old part (Err f) new → Appends old bytes r new
   appends_first new f r is short = appended_short old bytes bytes part rest e old new start f r is short
-
-pub appended_whole : (old : Vec ℕ Global) (bytes rest : List ℕ) → rest ≡ [] → (mid : Vec ℕ Global) → Appended old bytes rest mid → Appends old bytes (Ok tt) mid
-appended_whole old bytes rest none mid sofar =
-    (sofar.1 ∙ ap (λ xs. vec_items old ++ xs) (sym (append-nil sofar.0) ∙ ap (λ xs. sofar.0 ++ xs) (sym none) ∙ sofar.2), sofar.3)

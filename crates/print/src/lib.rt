@@ -6,9 +6,10 @@ ghost use Rattle.print.specs.Appending.{Appends};
 ghost use Rattle.print.specs.Lines.{keyword_text, entry_text, rest_text, line_text, fault_line};
 
 use fault::Fault;
+use itoa::Buffer;
 use std::alloc::AllocError;
 
-// The words that lines are printed with.
+// The words that lines are printed with. By bytes and not by Display: std says nothing of what a failed `write!` leaves.
 #[derive(Clone, Copy, PartialEq, Eq, Debug)]
 pub enum Keyword {
     In,
@@ -59,7 +60,7 @@ pub fn put_line(out: &mut Vec<u8>, word: Keyword, entries: &[Entry]) -> Result<(
     put_rest(out, entries)
 }
 
-// The refusal of a part of the input.
+// The refusal of a part of the input. The part is a number, as each program has parts of its own.
 pub fn put_fault(out: &mut Vec<u8>, part: u8, fault: Fault) -> Result<(), AllocError>
     ensures { Appends out.old (fault_line part fault) result out.new }
 {
@@ -94,11 +95,7 @@ fn put_entry(out: &mut Vec<u8>, entry: Entry) -> Result<(), AllocError>
 pub fn put_number(out: &mut Vec<u8>, n: u64) -> Result<(), AllocError>
     ensures { Appends out.old (decimal n) result out.new }
 {
-    if n < 10 {
-        return put_bytes(out, &[b'0' + n as u8]);
-    }
-    put_number(out, n / 10)?;
-    put_bytes(out, &[b'0' + (n % 10) as u8])
+    put_bytes(out, Buffer::new().format(n).as_bytes())
 }
 
 pub fn put_bytes(out: &mut Vec<u8>, bytes: &[u8]) -> Result<(), AllocError>

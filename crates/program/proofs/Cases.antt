@@ -1,5 +1,5 @@
 -- What a value says of the test before it. Assumes nothing.
-use Rattle.std.proofs.Common.{◌≡◌, ℕ, Bool, true, false, cond, refl, arith}
+use Rattle.std.proofs.Common.{◌≡◌, Bool, true, false, cond, refl}
 
 pub split : {A : Type 0} {P : Type 0} (b : Bool) (x y v : A) → cond b x y ≡ v → (b ≡ true → x ≡ v → P) → (b ≡ false → y ≡ v → P) → P
 split true x y v e f g = f refl e

@@ -1,14 +1,11 @@
 -- The loop that collects the terms of an expression. Assumes nothing.
-use Rattle.std.proofs.Common.{◌≡◌, ℕ, ◌+◌, ◌-◌, ◌<◌, ◌≤◌, cond, leb, eqb, List, [], ◌∷◌, ◌++◌, length, Some, None, Ok, Err, Result, sym, refl, ap, ◌∙◌, subst, arith, length-append}
+use Rattle.std.proofs.Common.{◌≡◌, ℕ, ◌+◌, ◌-◌, ◌<◌, ◌≤◌, List, [], ◌∷◌, ◌++◌, length, Some, Ok, refl, ap, ◌∙◌, arith}
 use Rattle.std.proofs.lemmas.Bool.Decides.{nat_tests}
 use Rattle.std.proofs.lemmas.List.{length_push}
-use Rattle.fault.specs.declared.Fault.{Fault}
-use Rattle.fault.specs.Faults.{then}
-use Rattle.text.specs.Places.{field_at}
-use Rattle.text.specs.Reading.{head_of, tail_of, or_refused}
+use Rattle.text.specs.Reading.{head_of, tail_of}
 use Rattle.program.specs.declared.rows.Term.{Term}
 use Rattle.program.specs.declared.rows.Term.TheVariants.{Input, Constant, Variable, Operator}
-use Rattle.program.specs.Terms.{term_in, term_in_head, arity_of, expression_from}
+use Rattle.program.specs.Terms.{term_in_head, arity_of, expression_from}
 
 -- some terms are read, so many parts are lacking, and what is left of the same line gives the result
 pub record ReadSoFar (n k : ℕ) (start : List (List ℕ)) (m : ℕ) (left : List (List ℕ)) (lacking : ℕ) (terms : List Term) : Type 0 where

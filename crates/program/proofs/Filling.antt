@@ -1,22 +1,20 @@
 -- The loop that reads the lines of a text into lent tables. Assumes nothing.
-use Rattle.std.proofs.Common.{◌≡◌, ℕ, ◌+◌, ◌-◌, ◌<◌, ◌≤◌, List, [], ◌∷◌, ◌++◌, length, take, drop, replicate, Ok, Err, Result, sym, refl, ap, ◌∙◌, subst, arith}
-use Rattle.std.proofs.lemmas.List.{drop-drop, drop-replicate, length-take-le, take-append-drop}
+use Rattle.std.proofs.Common.{◌≡◌, ℕ, ◌+◌, ◌-◌, ◌<◌, ◌≤◌, List, length, drop, replicate, Ok, Err, Result, sym, ap, ◌∙◌, subst, arith}
+use Rattle.std.proofs.lemmas.List.{drop-drop, drop-replicate}
 use Rattle.fault.specs.declared.Fault.{Fault}
-use Rattle.fault.specs.declared.Reason.TheVariants as reason
 use Rattle.fault.specs.Faults.{then}
 use Rattle.text.specs.Building.{two_steps}
-use Rattle.text.specs.Numbered.{Begun, Gives, Refuses}
-use Rattle.text.specs.Places.{placed}
+use Rattle.text.specs.Numbered.{Gives}
 use Rattle.text.specs.declared.line.Line.{Line}
 use Rattle.text.specs.declared.lines.Lines.{Lines}
-use Rattle.text.proofs.Steps.{read_on, begun_is_short, first_is_read, nothing_is_left, line_is_refused, line_is_read}
+use Rattle.text.proofs.Steps.{read_on, line_is_read}
 use Rattle.program.specs.declared.reader.Progress.{Progress}
 use Rattle.program.specs.declared.rows.Row.{Row}
 use Rattle.program.specs.declared.rows.Term.{Term}
 use Rattle.program.specs.Lines.{parse}
-use Rattle.program.specs.Building.{blank_row, blank_term, Tables, tables, build}
+use Rattle.program.specs.Building.{blank_row, blank_term, Tables, build}
 use Rattle.program.specs.Progress.{so_far, GoesOn}
-use Rattle.program.specs.Reading.{ended, tables_in, reading, padded, Filled}
+use Rattle.program.specs.Reading.{ended, reading}
 
 -- what the lines that are left, and then the end, make of what is held
 abbrev pub to_end : Result Tables Fault → Result Tables Fault

@@ -1,5 +1,5 @@
 -- A line is read exactly as it is written. Assumes nothing.
-use Rattle.std.proofs.Common.{◌≡◌, ℕ, ◌+◌, ◌^◌, ◌<◌, ◌≤◌, true, eqb, List, [], ◌∷◌, ◌++◌, map, length, Ok, Err, decimal, Result, sym, refl, ap, ◌∙◌, subst, append-nil, arith}
+use Rattle.std.proofs.Common.{◌≡◌, ℕ, ◌+◌, ◌^◌, ◌<◌, ◌≤◌, true, eqb, List, [], ◌∷◌, ◌++◌, map, length, Ok, decimal, Result, sym, refl, ap, ◌∙◌, subst, append-nil, arith}
 use Rattle.std.proofs.lemmas.Bool.{eqb-true}
 use Rattle.std.specs.List.{AllByRecursion}
 use Rattle.fault.specs.declared.Fault.{Fault}
@@ -9,7 +9,6 @@ use Rattle.language.specs.declared.Operator as language
 use Rattle.language.specs.declared.Operator.TheVariants.{Plus, Minus, Times, Equal, Less, Round}
 use Rattle.text.specs.Lines.{all_printable}
 use Rattle.text.specs.Pieces.{pieces, joined}
-use Rattle.text.specs.Places.{letter_at}
 use Rattle.text.specs.Reading.{tail_of, read_letter, read_number, read_end}
 use Rattle.text.proofs.Cutting.{Free, pieces_rejoin, joined_pieces_part}
 use Rattle.text.proofs.Decimals.{decimal_is_digits}

@@ -14,4 +14,4 @@ pub use laws::{flat_form_tells_the_program, reading_inverts_writing, text_tells_
 pub use nest::Nesting;
 pub use reader::read_program;
 pub use rows::{Kind, Row, Term};
-pub use terms::{EXPRESSION_LIMIT, arity};
+pub use terms::EXPRESSION_LIMIT;

@@ -14,7 +14,7 @@ use crate::rows::{Row, Term};
 use fault::{Fault, Reason};
 use text::{Line, Lines, placed};
 
-// How far lent rows and terms are filled.
+// How far lent rows and terms are filled. A struct that held the tables too would promise with each method that they are still the same.
 #[derive(Drop)]
 struct Progress {
     nesting: Nesting,

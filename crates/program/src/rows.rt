@@ -46,6 +46,7 @@ impl Kind {
     }
 }
 
+// Its places are plain numbers: the tables are lent, and a caller may have filled them.
 #[derive(Clone, Copy, PartialEq, Eq, Debug)]
 pub struct Row {
     pub kind: Kind,

@@ -28,13 +28,15 @@ fn term(field: Field<'_>) -> Option<Term>
     }
 }
 
-// How many parts a term wants.
-pub fn arity(term: Term) -> usize
-    ensures { result ≡ arity_of term }
-{
-    match term {
-        Term::Operator(_) => 2,
-        _ => 0,
+impl Term {
+    // How many parts a term wants.
+    pub fn arity(self) -> usize
+        ensures { result ≡ arity_of self }
+    {
+        match self {
+            Term::Operator(_) => 2,
+            _ => 0,
+        }
     }
 }
 
@@ -59,7 +61,7 @@ pub fn expression(fields: &mut Fields<'_>, place: u8) -> Result<Expression, Faul
         match next_term(fields) {
             Some(term) if !terms.is_full() => {
                 terms.push(term);
-                lacking = lacking - 1 + arity(term);
+                lacking = lacking - 1 + term.arity();
             }
             _ => return Err(fields.fault(at)),
         }

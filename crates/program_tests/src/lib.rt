@@ -18,38 +18,34 @@ mod tests {
         value: 7,
     };
 
-    fn load_and_react<'a>(rows: &'a [Row], terms: &'a [Term], allowance: u16) -> Reaction {
-        let mut program = Program::empty();
-        let _ = program.load(rows, terms);
-        let mut words = [0; 16];
-        let mut slip = [Ticket::BLANK; 16];
-        program.react(&mut words, TICKET, allowance, &mut slip)
-    }
-
-    fn react_to_one(text: &[u8], allowance: u16) -> Reaction {
+    fn react_to_one(text: &[u8], allowance: u16) -> Result<Reaction, Fault> {
         let mut rows = [Row::BLANK; ROW_LIMIT];
         let mut terms = [Term::BLANK; TERM_LIMIT];
-        let _ = read_program(text, &mut rows, &mut terms);
-        load_and_react(&rows, &terms, allowance)
+        read_program(text, &mut rows, &mut terms)?;
+        let mut program = Program::empty();
+        program.load(&rows, &terms)?;
+        let mut words = [0; 16];
+        let mut slip = [Ticket::BLANK; 16];
+        Ok(program.react(&mut words, TICKET, allowance, &mut slip))
     }
 
     #[test]
     fn three_skips_end_with_three_steps_and_stall_with_two(rt: HostRuntime) {
         assert_eq!(rt;
             react_to_one(THREE_SKIPS, 3),
-            Reaction {
+            Ok(Reaction {
                 made: 0,
                 steps: 3,
                 stalled: false,
-            }
+            })
         );
         assert_eq!(rt;
             react_to_one(THREE_SKIPS, 2),
-            Reaction {
+            Ok(Reaction {
                 made: 0,
                 steps: 2,
                 stalled: true,
-            }
+            })
         );
     }
 
@@ -57,11 +53,11 @@ mod tests {
     fn a_seventeenth_ticket_is_no_step(rt: HostRuntime) {
         assert_eq!(rt;
             react_to_one(FOR_EVER, 1000),
-            Reaction {
+            Ok(Reaction {
                 made: 16,
                 steps: 49,
                 stalled: true,
-            }
+            })
         );
     }
 

@@ -1,15 +1,10 @@
 // Feeds a switch sheet with in-tickets: reads the sheet, a line `-` and the tickets, and prints what each is answered by.
 #![tactic(auto)]
 
+use filter::run_filter;
 use react_report::report_react;
 use std::io;
-use std::io::{Read, Write};
 
 fn main(rt: HostRuntime) -> io::Result<()> {
-    let heap = rt.alloc();
-    let mut input = Vec::new(heap);
-    rt.stdin().read_to_end(&mut input)?;
-    let mut output = Vec::new(heap);
-    report_react(&mut output, input.as_slice())?;
-    rt.stdout().write_all(output.as_slice())
+    run_filter(rt.alloc(), &mut rt.stdin(), &mut rt.stdout(), report_react)
 }

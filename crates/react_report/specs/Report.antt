@@ -7,11 +7,9 @@ use Rattle.language.specs.Step.{reaction}
 use Rattle.machine.specs.Meaning.{Meaning}
 use Rattle.parts.specs.Parts.{before_mark, after_mark}
 use Rattle.print.specs.Lines.{fault_line}
-use Rattle.program.specs.Building.{Tables}
 use Rattle.program.specs.Reading as program
 use Rattle.program.specs.Trees.{tree_of}
 use Rattle.reactions.specs.Reactions.{reaction_lines}
-use Rattle.switch.specs.declared.line.SwitchLine.{SwitchLine}
 use Rattle.switch.specs.Reading.{reading, padded}
 use Rattle.switch_machine.specs.Switching.{switched}
 
@@ -23,19 +21,16 @@ allowance = 1000
 abbrev pub fed_lines : Meaning → List ℕ → List ℕ
 fed_lines means bytes = cond (length bytes % 8 == 0) (reaction_lines means allowance bytes) (fault_line 2 (unplaced reason.Record))
 
-abbrev pub switch_lines : Result (List SwitchLine) Fault → List ℕ → List ℕ
-switch_lines (Ok ls) bytes = fed_lines (switched (padded 64 (Ok ls))) bytes
-switch_lines (Err f) bytes = fault_line 1 f
+-- and the machine that part 1 was read as, if it was
+abbrev pub machine_lines : {M : Type 0} → (M → Meaning) → Result M Fault → List ℕ → List ℕ
+machine_lines meaning (Ok m) bytes = fed_lines (meaning m) bytes
+machine_lines meaning (Err f) bytes = fault_line 1 f
 
 abbrev pub switch_report : List ℕ → List ℕ → List ℕ
-switch_report text bytes = switch_lines (reading text) bytes
-
-abbrev pub program_lines : Result Tables Fault → List ℕ → List ℕ
-program_lines (Ok s) bytes = fed_lines (reaction (tree_of s.rows s.terms)) bytes
-program_lines (Err f) bytes = fault_line 1 f
+switch_report text bytes = machine_lines (λ ls. switched (padded 64 (Ok ls))) (reading text) bytes
 
 abbrev pub program_report : List ℕ → List ℕ → List ℕ
-program_report text bytes = program_lines (program.reading text) bytes
+program_report text bytes = machine_lines (λ s. reaction (tree_of s.rows s.terms)) (program.reading text) bytes
 
 -- a switch sheet begins with the letter T, which no site program does
 abbrev pub is_switch_sheet : List ℕ → Bool

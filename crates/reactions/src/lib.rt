@@ -23,9 +23,7 @@ pub fn list_reactions<M: Machine>(
     ensures { Appends out.old (reaction_lines (M.meaning machine.now) allowance bytes.now) result out.new }
 {
     let mut words = [0; 16];
-    let mut n = 0;
-    for record in bytes.chunks_exact(8) {
-        n += 1;
+    for (record, n) in bytes.chunks_exact(8).zip(1..) {
         put_turn(out, machine, &mut words, allowance, n, record)?;
     }
     Ok(())
@@ -46,8 +44,7 @@ fn put_turn<M: Machine>(
         Ok(ticket) => {
             let mut slip = [Ticket::BLANK; 16];
             let reaction = machine.react(words, ticket, allowance, &mut slip);
-            let made = reaction.made;
-            put_made(out, n, &slip[0..made])?;
+            put_made(out, n, &slip[..reaction.made])?;
             put_end(out, n, reaction)
         }
         Err(fault) => put_refused(out, n, fault),

@@ -1,6 +1,5 @@
 -- What the text of a scheme is read as. Assumes nothing.
 use Rattle.std.specs.Prelude.{ℕ, cond, List, [], ◌∷◌, length, Ok, Err, codes, Result, ◌==◌, nat_le}
-use Rattle.std.specs.Borrow.{Bor}
 use Rattle.std.specs.Str.{bytes_eq}
 use Rattle.fault.specs.declared.Fault.{Fault}
 use Rattle.fault.specs.declared.Reason.TheVariants as reason
@@ -8,6 +7,7 @@ use Rattle.fault.specs.Faults.{unplaced, then}
 use Rattle.levels.specs.Chain.{chain, is_chain}
 use Rattle.levels.specs.Parties.{parties, is_parties}
 use Rattle.levels.specs.Scheme.{Levels}
+use Rattle.text.specs.declared.line.Line.{Line}
 use Rattle.text.specs.Lines.{text_limit, first_is_ragged}
 use Rattle.text.specs.Pieces.{pieces}
 use Rattle.text.specs.Places.{ragged_at, letter_at, level_at}
@@ -66,8 +66,8 @@ only_line t =
     (Err (unplaced reason.Overlong))
 
 -- the bytes of a line that was found
-abbrev pub seen : Result (Bor (List ℕ)) Fault → Result (List ℕ) Fault
-seen (Ok line) = Ok line.now
+abbrev pub seen : Result Line Fault → Result (List ℕ) Fault
+seen (Ok line) = Ok line.bytes.now
 seen (Err f) = Err f
 
 abbrev pub reading : List ℕ → Result SizedScheme Fault

@@ -1,15 +1,15 @@
 // The reader of a scheme: a text of one line, `chain,n` or `parties,n`.
 #![tactic(auto)]
 
-ghost use Rattle.std.specs.Prelude.{◌≡◌};
-ghost use Rattle.std.specs.Str.{bytes_eq};
-ghost use Rattle.text.specs.Pieces.{pieces, pieces_left};
-ghost use Rattle.scheme_reader.specs.Reading.{told, size_in, chain_in, parties_in, line_in, only_line, seen, reading};
+ghost use Rattle.std.specs.Prelude.{◌≡◌, IfOk};
+ghost use Rattle.text.specs.Pieces.{pieces};
+ghost use Rattle.text.specs.Reading.{line_of, left_of};
+ghost use Rattle.scheme_reader.specs.Reading.{told, size_in, line_in, only_line, seen, reading};
 ghost use Rattle.scheme_reader.specs.Writing.{ReadingInvertsWriting, Accepts};
 
 use fault::{Fault, Reason};
 use levels::{Chain, Parties};
-use text::{Fields, TEXT_LIMIT, cut, next_line, placed};
+use text::{Field, Fields, Line, Lines};
 
 #[derive(Clone, Copy)]
 pub enum SchemeChoice {
@@ -18,66 +18,45 @@ pub enum SchemeChoice {
 }
 
 // The field behind the word, which is the last one.
-fn read_size(rest: Option<&[u8]>) -> Result<u8, Fault>
-    ensures { result ≡ size_in (pieces_left 44 rest.entry) }
+fn read_size(fields: &mut Fields<'_>) -> Result<u8, Fault>
+    requires { line_of fields.old ≡ 1 }
+    ensures { result ≡ size_in (left_of fields.old) }
 {
-    let Some(bytes) = rest else {
-        return Err(placed(Reason::Field, 1, 2));
-    };
-    let mut fields = Fields::new(bytes, 1);
     let size = fields.byte(2, 0, 255)?;
     fields.end(3)?;
     Ok(size)
 }
 
-fn read_chain(rest: Option<&[u8]>) -> Result<SchemeChoice, Fault>
-    ensures { told result ≡ chain_in (pieces_left 44 rest.entry) }
+fn read_line(line: Line<'_>) -> Result<SchemeChoice, Fault>
+    requires { line.number ≡ 1 }
+    ensures { told result ≡ line_in (pieces 44 line.entry.bytes.now) }
 {
-    match Chain::new(read_size(rest)?) {
-        Ok(chain) => Ok(SchemeChoice::Chain(chain)),
-        Err(_) => Err(placed(Reason::Level, 1, 2)),
-    }
-}
-
-fn read_parties(rest: Option<&[u8]>) -> Result<SchemeChoice, Fault>
-    ensures { told result ≡ parties_in (pieces_left 44 rest.entry) }
-{
-    match Parties::new(read_size(rest)?) {
-        Ok(parties) => Ok(SchemeChoice::Parties(parties)),
-        Err(_) => Err(placed(Reason::Level, 1, 2)),
-    }
-}
-
-fn is_word(field: &[u8], word: &[u8]) -> bool
-    ensures { result ≡ bytes_eq field.now word.now }
-{
-    field == word
-}
-
-fn read_line(line: &[u8]) -> Result<SchemeChoice, Fault>
-    ensures { told result ≡ line_in (pieces 44 line.now) }
-{
-    let (word, rest) = cut(line, b',');
-    if is_word(word, b"chain") {
-        read_chain(rest)
-    } else if is_word(word, b"parties") {
-        read_parties(rest)
+    let mut fields = Fields::new(line);
+    let word = fields.take();
+    let no_such_size = |_: Fault| line.fault(Reason::Level, 2);
+    if word == Some(Field::Other(b"chain")) {
+        let size = read_size(&mut fields)?;
+        Chain::new(size)
+            .map(SchemeChoice::Chain)
+            .map_err(no_such_size)
+    } else if word == Some(Field::Other(b"parties")) {
+        let size = read_size(&mut fields)?;
+        Parties::new(size)
+            .map(SchemeChoice::Parties)
+            .map_err(no_such_size)
     } else {
-        Err(placed(Reason::Letter, 1, 1))
+        Err(line.fault(Reason::Letter, 1))
     }
 }
 
 // The one line of a text. Where there are fewer lines or more, the refusal has no place.
-fn only_line<'a>(text: &'a [u8]) -> Result<&'a [u8], Fault>
-    ensures { seen result ≡ only_line text.now }
+fn only_line(text: &[u8]) -> Result<Line<'_>, Fault>
+    ensures value { seen result ≡ only_line text.now }
+    ensures first { IfOk result (λ line. line.number ≡ 1) }
 {
-    if text.len() > TEXT_LIMIT {
-        return Err(Fault::unplaced(Reason::Overlong));
-    }
-    let Some((line, rest)) = next_line(text, 1)? else {
-        return Err(Fault::unplaced(Reason::Field));
-    };
-    if !rest.is_empty() {
+    let mut lines = Lines::new(text)?;
+    let line = lines.next().ok_or(Fault::unplaced(Reason::Field))??;
+    if lines.next().is_some() {
         return Err(Fault::unplaced(Reason::Field));
     }
     Ok(line)

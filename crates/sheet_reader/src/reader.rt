@@ -1,54 +1,29 @@
 // The reader of a level sheet: text lines `C,channel,level` and `V,variable,level`.
-ghost use Rattle.std.specs.Prelude.{◌≡◌, ◌<◌, IfOk, slice_set};
+ghost use Rattle.std.specs.Prelude.{◌≡◌, IfOk};
 ghost use Rattle.text.specs.Pieces.{pieces};
-ghost use Rattle.sheet_reader.specs.Naming.{place_of, FitName, given};
+ghost use Rattle.sheet_reader.specs.Naming.{FitName, given};
 ghost use Rattle.sheet_reader.specs.Reading.{line_in, reading, answer, sheet_after, Filled};
 ghost use Rattle.sheet_reader.specs.Writing.{Fit, LinesGiveLevels, Accepts, ReadingInvertsWriting};
 
-use crate::line::{Name, SheetLine};
+use crate::line::{NAMES, Name, SheetLine};
 use fault::{Fault, Reason};
 use levels::Scheme;
 use sheet::LevelSheet;
-use text::{Fields, TEXT_LIMIT, next_line, placed};
+use text::{Fields, Line, Lines};
 
-// The places of names: those of the channels, and then those of the 16 variables.
-const CHANNELS: usize = 32;
-
-const NAMES: usize = 48;
-
-// One line, whose number is given.
-fn read_line(line: &[u8], number: u16) -> Result<SheetLine, Fault>
-    ensures value { result ≡ line_in number (pieces 44 line.now) }
+fn read_line(line: Line<'_>) -> Result<SheetLine, Fault>
+    ensures value { result ≡ line_in line.entry.number (pieces 44 line.entry.bytes.now) }
     ensures fit { IfOk result Fit }
 {
-    let mut fields = Fields::new(line, number);
+    let mut fields = Fields::new(line);
     let name = match fields.letter()? {
         'C' => Name::Channel(fields.byte(2, 0, 31)?),
         'V' => Name::Variable(fields.byte(2, 0, 15)?),
-        _ => return Err(placed(Reason::Letter, number, 1)),
+        _ => return Err(line.fault(Reason::Letter, 1)),
     };
     let level = fields.byte(3, 0, 255)?;
     fields.end(4)?;
     Ok(SheetLine { name, level })
-}
-
-// The place of a name among all.
-fn place_of(name: Name) -> usize
-    requires { FitName name }
-    ensures value { result ≡ place_of name }
-    ensures below { result < 48 }
-{
-    match name {
-        Name::Channel(channel) => channel as usize,
-        Name::Variable(variable) => CHANNELS + variable as usize,
-    }
-}
-
-fn give_at<const N: usize>(levels: &mut [u8; N], place: u8, level: u8)
-    requires { place < N }
-    ensures { levels.new ≡ slice_set levels.old place level }
-{
-    levels[place as usize] = level;
 }
 
 // The level of one name.
@@ -57,8 +32,8 @@ fn give(sheet: &mut LevelSheet, name: Name, level: u8)
     ensures { sheet.new ≡ given sheet.old name level }
 {
     match name {
-        Name::Channel(channel) => give_at(&mut sheet.channels, channel, level),
-        Name::Variable(variable) => give_at(&mut sheet.variables, variable, level),
+        Name::Channel(channel) => sheet.channels[channel as usize] = level,
+        Name::Variable(variable) => sheet.variables[variable as usize] = level,
     }
 }
 
@@ -66,33 +41,25 @@ fn give(sheet: &mut LevelSheet, name: Name, level: u8)
 fn fill_sheet<S: Scheme>(text: &[u8], scheme: &S, sheet: &mut LevelSheet) -> Result<(), Fault>
     ensures { Filled (S.levels scheme.now).lowest (reading (S.levels scheme.now) text.now) result sheet.new }
 {
-    if text.len() > TEXT_LIMIT {
-        return Err(Fault::unplaced(Reason::Overlong));
-    }
     let lowest = scheme.lowest();
-    let levels = scheme.count();
     *sheet = LevelSheet::uniform(lowest);
+    let levels = scheme.count();
+    // One flag a place: no sheet has more names, and the reader has no heap.
     let mut named = [false; NAMES];
-    let mut left = text;
-    let mut count: u16 = 0;
-    loop {
-        let number = count + 1;
-        let Some((line, rest)) = next_line(left, number)? else {
-            return Ok(());
-        };
-        let SheetLine { name, level } = read_line(line, number)?;
-        let place = place_of(name);
+    for line in Lines::new(text)? {
+        let line = line?;
+        let SheetLine { name, level } = read_line(line)?;
+        let place = name.place();
         if named[place] {
-            return Err(placed(Reason::Twice, number, 2));
+            return Err(line.fault(Reason::Twice, 2));
         }
         if level >= levels {
-            return Err(placed(Reason::Level, number, 3));
+            return Err(line.fault(Reason::Level, 3));
         }
         named[place] = true;
         give(sheet, name, level);
-        count = number;
-        left = rest;
     }
+    Ok(())
 }
 
 // The sheet that a text is the writing of, with the scheme's lowest level for each name that it lacks.
@@ -101,13 +68,11 @@ pub fn read_sheet<S: Scheme>(text: &[u8], scheme: &S, sheet: &mut LevelSheet) ->
     ensures sheet { sheet.new ≡ sheet_after (S.levels scheme.now).lowest (reading (S.levels scheme.now) text.now) }
     ensures accepts { Accepts (S.levels scheme.now) text.now result sheet.new }
 {
-    match fill_sheet(text, scheme, sheet) {
-        Ok(()) => Ok(()),
-        Err(fault) => {
-            *sheet = LevelSheet::uniform(0);
-            Err(fault)
-        }
+    let read = fill_sheet(text, scheme, sheet);
+    if read.is_err() {
+        *sheet = LevelSheet::uniform(0);
     }
+    read
 }
 
 // A theorem: a text is read as some lines exactly if it is the writing of them, and they make a sheet for the scheme.

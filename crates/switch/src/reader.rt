@@ -73,6 +73,7 @@ fn fill_lines(text: &[u8], lines: &mut [SwitchLine]) -> Result<usize, Fault>
     requires blank { lines.old ≡ replicate (length lines.old) blank }
     ensures { Filled (reading text.now) result lines.new }
 {
+    // By hand: the count of filled lines is the answer too.
     let mut count = 0;
     for line in Lines::new(text)? {
         let line = line?;

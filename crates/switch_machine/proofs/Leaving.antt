@@ -1,9 +1,10 @@
 -- Which lines some text leaves. Assumes nothing.
-use Rattle.std.proofs.Common.{◌≡◌, ℕ, zero, suc, ◌-◌, ◌<◌, ◌≤◌, Bool, true, cond, eqb, List, [], ◌∷◌, ◌++◌, length, take, drop, replicate, Some, None, Ok, Err, Option, sym, refl, ap, ◌∙◌, arith}
+use Rattle.std.proofs.Common.{◌≡◌, ℕ, zero, suc, ◌-◌, ◌≤◌, Bool, true, cond, eqb, List, [], ◌∷◌, ◌++◌, length, take, drop, replicate, Some, None, Ok, Err, Option, sym, refl, ap, ◌∙◌, arith}
 use Rattle.std.proofs.ByRecursion.{All-take}
 use Rattle.std.proofs.lemmas.List.{take-append-drop, length-take-le, length-drop, length-append, length-replicate}
-use Rattle.std.proofs.lemmas.Bool.{and_parts, and_from, eqb-true, lt-ltb, le-leb, lt-leb, eq-eqb, false≢true}
-use Rattle.std.specs.List.{AllByRecursion}
+use Rattle.std.proofs.lemmas.Bool.{and_parts, and_from, eqb-true, lt-ltb, le-leb, eq-eqb, false≢true}
+use Rattle.std.proofs.lemmas.List.Elements.{recursion_from_All}
+use Rattle.std.specs.List.{All, AllByRecursion}
 use Rattle.fault.specs.declared.Reason.TheVariants as reason
 use Rattle.fault.specs.Faults.{unplaced}
 use Rattle.switch.specs.declared.line.SwitchLine.{SwitchLine}
@@ -38,13 +39,13 @@ blanks_are (l ∷ ls) e =
     let parts = and_parts (is_blank l) (all_blank ls) e in
     ap (λ x. x ∷ ls) (blank_is l parts.0) ∙ ap (λ xs. blank ∷ xs) (blanks_are ls parts.1)
 
-pub left_by_some : (lines : List SwitchLine) → sheet_limit ≤ length lines → AllByRecursion Fit lines → all_blank (drop sheet_limit lines) ≡ true → (text : List ℕ) × Leaves text lines
-left_by_some lines long fit blanks =
+pub left_by_some : (lines : List SwitchLine) → sheet_limit ≤ length lines → All Fit lines → is_left lines ≡ true → (text : List ℕ) × Leaves text lines
+left_by_some lines long fit left =
     let ls = take sheet_limit lines in
     let count : length ls ≡ sheet_limit = length-take-le sheet_limit lines long in
     let tail : drop sheet_limit lines ≡ replicate (length lines - length ls) blank =
-    blanks_are (drop sheet_limit lines) blanks ∙ ap (λ n. replicate n blank) (length-drop sheet_limit lines ∙ ap (λ n. length lines - n) (sym count)) in
-    (written ls, (ls, (reading_inverts_writing (written ls) ls).1 (refl, (omega arith, All-take Fit sheet_limit lines fit)), sym (take-append-drop sheet_limit lines) ∙ ap (λ xs. ls ++ xs) tail))
+    blanks_are (drop sheet_limit lines) (and_parts (all_fit lines) _ left).1 ∙ ap (λ n. replicate n blank) (length-drop sheet_limit lines ∙ ap (λ n. length lines - n) (sym count)) in
+    (written ls, (ls, (reading_inverts_writing (written ls) ls).1 (refl, (omega arith, All-take Fit sheet_limit lines (recursion_from_All Fit lines fit))), sym (take-append-drop sheet_limit lines) ∙ ap (λ xs. ls ++ xs) tail))
 
 made_if : (out : Option ℕ) (value : ℕ) → Makes out value → is_made out value ≡ true
 made_if None value e = eq-eqb value 0 e
@@ -72,12 +73,9 @@ leaves_left text lines (ls, read, is) =
     let n = length lines - length ls in
     rw is (and_from _ _ (all_fit_front ls n sheet.1) (blank_tail sheet_limit ls n sheet.0))
 
--- the value of a loading, by its tests
-pub loads : (lines : List SwitchLine) → sheet_limit ≤ length lines → (b : Bool) → is_left lines ≡ b → loading lines ≡ cond b (Ok tt) (Err (unplaced reason.Nest))
+-- the value of a loading, by its test
+loads : (lines : List SwitchLine) → sheet_limit ≤ length lines → (b : Bool) → is_left lines ≡ b → loading lines ≡ cond b (Ok tt) (Err (unplaced reason.Nest))
 loads lines long b is = rw (le-leb sheet_limit (length lines) long, is)
-
-pub too_few : (lines : List SwitchLine) → length lines < sheet_limit → loading lines ≡ Err (unplaced reason.Slip)
-too_few lines few = rw (lt-leb sheet_limit (length lines) few)
 
 -- what a text left is always taken
 pub read_lines_load : (text : List ℕ) (ls : List SwitchLine) (n : ℕ) → reading text ≡ Ok ls → sheet_limit ≤ n → loading (padded n (Ok ls)) ≡ Ok tt

@@ -5,7 +5,7 @@ use Rattle.fault.specs.declared.Reason.TheVariants as reason
 use Rattle.fault.specs.Faults.{unplaced}
 use Rattle.switch.specs.declared.line.SwitchLine.{SwitchLine}
 use Rattle.switch.specs.Reading.{sheet_limit, reading, padded}
-use Rattle.switch_machine.specs.declared.switching.Switch.{Switch}
+use Rattle.switch_machine.specs.declared.Switch.{Switch}
 use Rattle.switch_machine.specs.Sound.{is_left}
 
 abbrev pub loading : List SwitchLine → Result (Unit {0}) Fault

@@ -1,5 +1,6 @@
 -- What a switch sheet means as a machine: its state is word 0, and the first line that fits decides. Assumes nothing.
-use Rattle.std.specs.Prelude.{ℕ, Bool, false, cond, ◌&&◌, List, [], ◌∷◌, Some, None, Option, ◌==◌, nat_le, slice_index, slice_set}
+use Rattle.std.specs.Prelude.{ℕ, Bool, false, ◌&&◌, List, [], ◌∷◌, Some, None, Option, ◌==◌, nat_le, slice_index, slice_set}
+use Rattle.std.specs.List.{find}
 use Rattle.machine.specs.Meaning.{Outcome, Meaning}
 use Rattle.switch.specs.declared.line.SwitchLine.{SwitchLine}
 use Rattle.ticket.specs.declared.Ticket.{Ticket}
@@ -8,8 +9,7 @@ abbrev pub fits : ℕ → Ticket → SwitchLine → Bool
 fits state t l = l.state == state && (l.channel == t.channel && (nat_le l.low t.value && nat_le t.value l.high))
 
 abbrev pub first_fit : ℕ → Ticket → List SwitchLine → Option SwitchLine
-first_fit state t [] = None
-first_fit state t (l ∷ ls) = cond (fits state t l) (Some l) (first_fit state t ls)
+first_fit state t lines = find (fits state t) lines
 
 abbrev pub made_by : Option ℕ → ℕ → List Ticket
 made_by None value = []

@@ -65,7 +65,7 @@ pieces_rejoin m [] = refl
 pieces_rejoin m (b ∷ bs) = ap (joined m) (cond_pieces (eqb b m) b (first m bs) (others m bs)) ∙ by_mark m b bs (eqb b m) refl (pieces_rejoin m bs)
 
 -- a first piece, and what follows its mark
-parts_again : (m : ℕ) (bs p t : List ℕ) → pieces m bs ≡ p ∷ pieces m t → bs ≡ p ++ m ∷ t
+pub parts_again : (m : ℕ) (bs p t : List ℕ) → pieces m bs ≡ p ∷ pieces m t → bs ≡ p ++ m ∷ t
 parts_again m bs p t e = sym (pieces_rejoin m bs) ∙ ap (joined m) e ∙ ap (λ l. p ++ m ∷ l) (pieces_rejoin m t)
 
 pub shorter : (m : ℕ) (bs p t : List ℕ) → pieces m bs ≡ p ∷ pieces m t → length t < length bs

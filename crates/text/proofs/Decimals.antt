@@ -2,6 +2,7 @@
 use Rattle.std.proofs.Common.{◌≡◌, ℕ, ◌+◌, ◌-◌, ◌*◌, ◌^◌, ◌<◌, ◌≤◌, Bool, true, false, cond, ◌&&◌, leb, List, [], ◌∷◌, length, get_or, drop, Some, None, decimal, Option, sym, refl, ap, ◌∙◌, ⊎_elim, le_refl, arith, rules}
 use Rattle.std.proofs.lemmas.Fmt.{decimal-digits_value, digits_decimal, digits_value-decimal, decimal_nonempty, first_decimal, decimal_digit}
 use Rattle.std.proofs.lemmas.List.{drop_more}
+use Rattle.std.proofs.lemmas.Option.{cond_some}
 use Rattle.std.proofs.lemmas.Str.Parse.{IsNumeralModel, numerals_by_fold}
 use Rattle.std.proofs.lemmas.Bool.{leb-true, le-leb, lt-leb, cases_eq}
 use Rattle.std.proofs.lemmas.Bool.Decides.{nat_tests}
@@ -43,34 +44,29 @@ module _ (high a : ℕ) (s : List ℕ) (i : ℕ) (h : i < length s) where
 numerals : IsNumeralModel (λ ds. all_digits ds ≡ true) (value_after 0)
 numerals = numerals_by_fold _ (search rules) value_after (search rules)
 
-cond_some : (b : Bool) (x : Option ℕ) (v : ℕ) → cond b x None ≡ Some v → (b ≡ true) × (x ≡ Some v)
-cond_some true x v e = (refl, e)
-cond_some false x v e = let z : ◌≡◌ {A = ℕ} 0 1 = cc in absurd (omega arith)
-
-some_is : (m n : ℕ) → Some m ≡ Some n → m ≡ n
-some_is m n e = cc
+passed : (b : Bool) (x : Option ℕ) (v : ℕ) → cond b x None ≡ Some v → (b ≡ true) × (x ≡ Some v)
+passed true x v e = (refl, e)
+passed false x v e = absurd cc
 
 plain_some : (bs : List ℕ) → is_plain bs ≡ true → (0 < length bs) × (get_or bs 0 0 ≡ 48 → length bs ≡ 1)
 plain_some bs e = (grind (arith, nat_tests), λ z. grind (arith, nat_tests))
 
 least_some : (low : ℕ) (o : Option ℕ) (v : ℕ) → at_least low o ≡ Some v → (o ≡ Some v) × (low ≤ v)
-least_some low None v e = let z : ◌≡◌ {A = ℕ} 0 1 = cc in absurd (omega arith)
+least_some low None v e = absurd cc
 least_some low (Some n) v e =
-    let a = cond_some (leb low n) (Some n) v e in
-    let is : n ≡ v = some_is n v a.1 in
+    let a = cond_some (leb low n) n v e in
     let le : low ≤ n = leb-true low n a.0 in
-    (a.1, omega arith)
+    (ap (λ m. Some m) a.1, omega (arith, a.1))
 
 pub number_read_is_decimal : (low high : ℕ) (bs : List ℕ) (v : ℕ) → high < 2 ^ 64 → number_in low high bs ≡ Some v → (bs ≡ decimal v) × (low ≤ v) × (v ≤ high)
 number_read_is_decimal low high bs v small e =
     let l = least_some low (cond (is_plain bs) (digits_in high 0 bs) None) v e in
-    let a = cond_some (is_plain bs) (digits_in high 0 bs) v l.0 in
-    let b = cond_some (all_digits bs) (at_most high (value_after 0 bs)) v a.1 in
-    let d = cond_some (leb (value_after 0 bs) high) (Some (value_after 0 bs)) v b.1 in
+    let a = passed (is_plain bs) (digits_in high 0 bs) v l.0 in
+    let b = passed (all_digits bs) (at_most high (value_after 0 bs)) v a.1 in
+    let d = cond_some (leb (value_after 0 bs) high) (value_after 0 bs) v b.1 in
     let le : value_after 0 bs ≤ high = leb-true (value_after 0 bs) high d.0 in
-    let is : value_after 0 bs ≡ v = some_is (value_after 0 bs) v d.1 in
     let p = plain_some bs a.0 in
-    (sym (decimal-digits_value numerals bs b.0 p.0 p.1 (omega arith)) ∙ ap decimal is, l.1, omega arith)
+    (sym (decimal-digits_value numerals bs b.0 p.0 p.1 (omega arith)) ∙ ap decimal d.1, l.1, omega (arith, d.1))
 
 plain_from : (bs : List ℕ) → 0 < length bs → 48 < get_or bs 0 0 → is_plain bs ≡ true
 plain_from bs a b = grind (arith, nat_tests)

@@ -45,15 +45,15 @@ no_dash bs k e h =
     (cases_Bool (dash_in bs))
 
 pub number_is_by_bytes : (low high : ℕ) (f : Field) → Formed f → number_of low high f ≡ number_in low high (bytes_of f)
-number_is_by_bytes low high (Letter c) e = no_number low high (c ∷ []) letter e (λ k. let z : ◌≡◌ {A = ℕ} 0 1 = cc in omega arith)
+number_is_by_bytes low high (Letter c) e = no_number low high (c ∷ []) letter e (λ k. cc)
 number_is_by_bytes low high (Number d) e = refl
-number_is_by_bytes low high (Term c d) e = no_number low high (c ∷ d.now) term e (λ k. let z : ◌≡◌ {A = ℕ} 0 1 = cc in omega arith)
-number_is_by_bytes low high (Operator c) e = no_number low high (c ∷ []) operator e (λ k. let z : ◌≡◌ {A = ℕ} 0 1 = cc in omega arith)
-number_is_by_bytes low high (Other b) e = no_number low high b.now other e (λ k. let z : ◌≡◌ {A = ℕ} 0 1 = cc in omega arith)
+number_is_by_bytes low high (Term c d) e = no_number low high (c ∷ d.now) term e (λ k. cc)
+number_is_by_bytes low high (Operator c) e = no_number low high (c ∷ []) operator e (λ k. cc)
+number_is_by_bytes low high (Other b) e = no_number low high b.now other e (λ k. cc)
 
 pub dash_is_by_bytes : (f : Field) → Formed f → is_dash f ≡ dash_in (bytes_of f)
-dash_is_by_bytes (Letter c) e = no_dash (c ∷ []) letter e (λ k. let z : ◌≡◌ {A = ℕ} 0 1 = cc in omega arith)
-dash_is_by_bytes (Number d) e = no_dash d.now number e (λ k. let z : ◌≡◌ {A = ℕ} 0 1 = cc in omega arith)
-dash_is_by_bytes (Term c d) e = no_dash (c ∷ d.now) term e (λ k. let z : ◌≡◌ {A = ℕ} 0 1 = cc in omega arith)
+dash_is_by_bytes (Letter c) e = no_dash (c ∷ []) letter e (λ k. cc)
+dash_is_by_bytes (Number d) e = no_dash d.now number e (λ k. cc)
+dash_is_by_bytes (Term c d) e = no_dash (c ∷ d.now) term e (λ k. cc)
 dash_is_by_bytes (Operator c) e = refl
-dash_is_by_bytes (Other b) e = no_dash b.now other e (λ k. let z : ◌≡◌ {A = ℕ} 0 1 = cc in omega arith)
+dash_is_by_bytes (Other b) e = no_dash b.now other e (λ k. cc)

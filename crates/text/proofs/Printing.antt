@@ -1,5 +1,6 @@
 -- What is written of fields and lines is printable, short, and holds no mark. Assumes nothing.
-use Rattle.std.proofs.Common.{◌≡◌, ℕ, ◌+◌, ◌*◌, ◌≤◌, Bool, true, false, eqb, leb, List, [], ◌∷◌, ◌++◌, length, refl, subst, ⊎_elim, mul-suc, arith, length-append}
+use Rattle.std.proofs.Common.{◌≡◌, ℕ, ◌+◌, ◌*◌, ◌≤◌, Bool, true, false, eqb, leb, List, [], ◌∷◌, ◌++◌, length, refl, ◌∙◌, subst, ⊎_elim, mul-suc, arith, length-append}
+use Rattle.std.proofs.lemmas.List.Folds.{list_all-append}
 use Rattle.std.proofs.lemmas.Bool.{and_parts, and_from, both_ways, cases_Bool, eqb-true, le-leb}
 use Rattle.std.proofs.lemmas.Bool.Decides.{nat_tests}
 use Rattle.std.specs.List.{AllByRecursion}
@@ -31,10 +32,7 @@ digits_are_free m none (b ∷ bs) e =
     (other_byte is_digit b m a.0 none, digits_are_free m none bs a.1)
 
 pub printable_append : (xs ys : List ℕ) → all_printable xs ≡ true → all_printable ys ≡ true → all_printable (xs ++ ys) ≡ true
-printable_append [] ys e f = f
-printable_append (x ∷ xs) ys e f =
-    let a = and_parts (is_printable x) (all_printable xs) e in
-    and_from (is_printable x) (all_printable (xs ++ ys)) a.0 (printable_append xs ys a.1 f)
+printable_append xs ys e f = list_all-append is_printable xs ys ∙ and_from (all_printable xs) (all_printable ys) e f
 
 pub printable_marked : (m : ℕ) (ps : List (List ℕ)) → is_printable m ≡ true → AllByRecursion (λ p. all_printable p ≡ true) ps → all_printable (marked m ps) ≡ true
 printable_marked m [] e h = refl

@@ -1,5 +1,5 @@
 -- A text that is read line by line, as `Lines` gives it. Assumes nothing.
-use Rattle.std.proofs.Common.{◌≡◌, ℕ, ◌+◌, ◌<◌, ◌≤◌, true, false, cond, not, leb, eqb, List, [], ◌∷◌, length, Some, Ok, Err, Result, sym, refl, ap, ◌∙◌, subst, arith}
+use Rattle.std.proofs.Common.{◌≡◌, ℕ, ◌+◌, true, cond, leb, eqb, List, [], ◌∷◌, length, Some, Ok, Err, Result, sym, ap, ◌∙◌, subst}
 use Rattle.std.proofs.lemmas.Bool.{cond-true, cond-false, le-leb, lt-leb, not-true}
 use Rattle.fault.specs.declared.Fault.{Fault}
 use Rattle.fault.specs.declared.Reason.TheVariants as reason
@@ -29,7 +29,7 @@ unbegun_is_overlong text f x b = cond-false (leb (length text) 8192) x _ (lt-leb
 
 -- a ragged line is refused
 ragged_is_refused : {S : Type 0} (step : Step S) (s : S) (n : ℕ) (ps : List (List ℕ)) → first_is_ragged ps ≡ true → on_lines strict step s n ps ≡ Err (ragged_at (n + 1))
-ragged_is_refused step s n [] e = let z : ◌≡◌ {A = ℕ} 0 1 = cc in absurd (omega arith)
+ragged_is_refused step s n [] e = absurd cc
 ragged_is_refused step s n (p ∷ []) e = cond-false (eqb (length p) 0) (Ok s) _ (not-true (eqb (length p) 0) e)
 ragged_is_refused step s n (p ∷ q ∷ qs) e =
     ap (λ b. then (cond b (step s (n + 1) p) (Err (ragged_at (n + 1)))) (λ t. on_lines strict step t (n + 1) (q ∷ qs))) (not-true (is_clean p) e)

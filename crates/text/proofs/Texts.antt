@@ -1,5 +1,5 @@
 -- A text is accepted exactly if it is lines that pass and that lead from one state to the next. Assumes nothing.
-use Rattle.std.proofs.Common.{◌≡◌, ℕ, ◌+◌, Bool, true, false, cond, eqb, List, [], ◌∷◌, ◌++◌, length, Ok, Err, Result, refl, ap, ◌∙◌, subst, inl, inr, ⊎_elim, append_assoc, append-nil, arith}
+use Rattle.std.proofs.Common.{◌≡◌, ℕ, ◌+◌, Bool, true, false, cond, eqb, List, [], ◌∷◌, ◌++◌, length, Ok, Err, Result, refl, ap, ◌∙◌, subst, inl, inr, ⊎_elim, append_assoc, append-nil}
 use Rattle.std.proofs.lemmas.List.{nil_from_length}
 use Rattle.std.proofs.lemmas.Bool.{eqb-true}
 use Rattle.std.specs.List.{AllByRecursion}
@@ -22,7 +22,7 @@ module _ {S : Type 0} (step : Step S) where
 
   strict_rest : (s t : S) (n : ℕ) (q : List ℕ) (b : Bool) → eqb (length q) 0 ≡ b → cond b (Ok s) (Err (ragged_at n)) ≡ Ok t → (q ≡ []) × (s ≡ t)
   strict_rest s t n q true z e = empty_rest s t q z e
-  strict_rest s t n q false z e = let z : ◌≡◌ {A = ℕ} 0 1 = cc in absurd (omega arith)
+  strict_rest s t n q false z e = absurd cc
 
   lax_rest : (s t : S) (n : ℕ) (q : List ℕ) (b : Bool) → eqb (length q) 0 ≡ b → cond b (Ok s) (step s (n + 1) q) ≡ Ok t
       → (ps : List (List ℕ)) × TextOf lax (q ++ []) ps × Leads lax step s n ps t

@@ -1,8 +1,11 @@
--- A line: which is ragged, and which a text begins with. Assumes nothing.
-use Rattle.std.specs.Prelude.{◌≡◌, ℕ, ◌<◌, Bool, true, false, not, ◌&&◌, List, [], ◌∷◌, length, ◌==◌, nat_le}
+-- A line: which is ragged, and the next of a text. Assumes nothing.
+use Rattle.std.specs.Prelude.{◌≡◌, ℕ, ◌<◌, Bool, true, false, not, ◌&&◌, List, [], ◌∷◌, length, Some, None, Ok, Err, Option, Result, ◌==◌, nat_le}
+use Rattle.std.specs.Borrow.{Bor}
+use Rattle.fault.specs.declared.Fault.{Fault}
 use Rattle.std.specs.List.{list_all}
 use Rattle.text.specs.Classes.{is_printable}
 use Rattle.text.specs.Pieces.{pieces}
+use Rattle.text.specs.Places.{ragged_at}
 
 -- the most bytes of a text
 abbrev pub text_limit : ℕ
@@ -30,3 +33,9 @@ pub record BeginsWith (left line rest : List ℕ) : Type 0 where
   pub cut : pieces 10 left ≡ line ∷ pieces 10 rest
   pub clean : is_clean line ≡ true
   pub shorter : length rest < length left
+
+-- the next line, where left is what is left of a text behind n - 1 lines
+abbrev pub NextLine : ℕ → List ℕ → Result (Option (Bor (List ℕ) × Bor (List ℕ))) Fault → Type 0
+NextLine n left (Ok None) = left ≡ []
+NextLine n left (Ok (Some r)) = BeginsWith left r.0.now r.1.now
+NextLine n left (Err f) = (first_is_ragged (pieces 10 left) ≡ true) × (f ≡ ragged_at n)

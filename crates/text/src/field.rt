@@ -5,6 +5,7 @@ ghost use Rattle.text.specs.Fields.{bytes_of, form_of, form_in, letter_of, numbe
 use crate::classes::Class;
 use crate::{classes, numbers};
 
+// Letters stay characters: what they mean is for each reader to say.
 #[derive(Clone, Copy, PartialEq, Eq, Debug)]
 pub enum Field<'a> {
     Letter(char),
@@ -17,6 +18,7 @@ pub enum Field<'a> {
 }
 
 impl<'a> Field<'a> {
+    #[tactic(auto, using(crate::proofs::Forms::alone, crate::proofs::Forms::split_first))]
     pub fn of(part: &'a [u8]) -> Field<'a>
         ensures bytes { bytes_of result ≡ part.now }
         ensures form { form_of result ≡ form_in part.now }

@@ -50,23 +50,19 @@ impl<'a> Fields<'a> {
         ensures value { result ≡ read_letter (line_of self.old) (left_of self.old) }
         ensures taken { Taken self.old self.new }
     {
-        match self.take().and_then(Field::letter) {
-            Some(letter) => Ok(letter),
-            None => Err(places::placed(Reason::Letter, self.line, 1)),
-        }
+        let letter = self.take().and_then(Field::letter);
+        letter.ok_or(places::placed(Reason::Letter, self.line, 1))
     }
 
-    #[tactic(auto, using(crate::proofs::Forms::number_is_by_bytes))]
     // The field at a place, which is a number from `low` to `high`.
+    #[tactic(auto, using(crate::proofs::Forms::number_is_by_bytes))]
     pub fn number(&mut self, place: u8, low: u32, high: u32) -> Result<u32, Fault>
         ensures value { result ≡ read_number (line_of self.old) place low high (left_of self.old) }
         ensures range { IfOk result (λ n. (low ≤ n) × (n ≤ high)) }
         ensures taken { Taken self.old self.new }
     {
-        match self.take().and_then(|field| field.number(low, high)) {
-            Some(n) => Ok(n),
-            None => Err(self.fault(place)),
-        }
+        let number = self.take().and_then(|field| field.number(low, high));
+        number.ok_or(self.fault(place))
     }
 
     // The same, in one byte.

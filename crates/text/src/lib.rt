@@ -14,7 +14,7 @@ pub use classes::{Class, class_of};
 pub use field::Field;
 pub use fields::Fields;
 pub use line::Line;
-pub use lines::{Lines, TEXT_LIMIT};
+pub use lines::{Lines, TEXT_LIMIT, next_line};
 pub use numbers::number;
 pub use pieces::cut;
 pub use places::placed;

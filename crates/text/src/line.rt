@@ -1,6 +1,6 @@
 // A line of a text with its number.
 ghost use Rattle.std.specs.Prelude.{◌≡◌};
-ghost use Rattle.text.specs.Lines.{is_clean};
+ghost use Rattle.text.specs.Lines.{all_printable, is_clean};
 ghost use Rattle.text.specs.Places.{placed};
 
 use crate::{classes, places};
@@ -20,7 +20,7 @@ impl<'a> Line<'a> {
     pub fn is_clean(self) -> bool
         ensures { result ≡ is_clean self.entry.bytes.now }
     {
-        self.bytes.len() <= LINE_LIMIT && self.bytes.iter().all(|byte| classes::is_printable(*byte))
+        self.bytes.len() <= LINE_LIMIT && all_printable(self.bytes)
     }
 
     // The refusal of a field of this line.
@@ -29,4 +29,10 @@ impl<'a> Line<'a> {
     {
         places::placed(reason, self.number, field)
     }
+}
+
+fn all_printable(bytes: &[u8]) -> bool
+    ensures { result ≡ all_printable bytes.now }
+{
+    bytes.iter().all(|byte| classes::is_printable(*byte))
 }

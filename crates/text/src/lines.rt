@@ -1,6 +1,6 @@
 // The lines of a text, one after the other.
 ghost use Rattle.std.specs.Prelude.{◌+◌, ◌≤◌, length};
-ghost use Rattle.text.specs.Lines.{text_limit};
+ghost use Rattle.text.specs.Lines.{text_limit, NextLine};
 
 use crate::line::Line;
 use crate::pieces;
@@ -45,22 +45,33 @@ impl<'a> Iterator for Lines<'a> {
 
     // A line that is refused is the last.
     fn next(&mut self) -> Option<Result<Line<'a>, Fault>> {
-        if self.left.is_empty() {
-            return None;
-        }
-        let (bytes, rest) = pieces::cut(self.left, b'\n');
         let number = self.count + 1;
-        let line = Line { bytes, number };
-        match rest {
-            Some(rest) if line.is_clean() => {
+        match next_line(self.left, number) {
+            Ok(Some((bytes, rest))) => {
                 self.left = rest;
                 self.count = number;
-                Some(Ok(line))
+                Some(Ok(Line { bytes, number }))
             }
-            _ => {
+            Ok(None) => None,
+            Err(fault) => {
                 self.left = &[];
-                Some(Err(line.fault(Reason::Ragged, 0)))
+                Some(Err(fault))
             }
         }
+    }
+}
+
+// The first line of what is left of a text, and what follows it; none where nothing is left.
+pub fn next_line<'a>(left: &'a [u8], number: u16) -> Result<Option<(&'a [u8], &'a [u8])>, Fault>
+    ensures { NextLine number left.now result }
+{
+    if left.is_empty() {
+        return Ok(None);
+    }
+    let (bytes, rest) = pieces::cut(left, b'\n');
+    let line = Line { bytes, number };
+    match rest {
+        Some(rest) if line.is_clean() => Ok(Some((bytes, rest))),
+        _ => Err(line.fault(Reason::Ragged, 0)),
     }
 }

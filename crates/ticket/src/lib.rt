@@ -35,6 +35,7 @@ impl Ticket {
         [self.channel, mark, a, b, c, d, 0, 0]
     }
 
+    // No TryFrom, as there are two readings of bytes: this and decode_in.
     pub fn decode(bytes: &[u8]) -> Result<Ticket, Fault>
         ensures value { result ≡ decoded bytes.now }
         ensures undoes { Decodes bytes.now result }

@@ -2,14 +2,9 @@
 #![tactic(auto)]
 
 use batch_report::report_batch;
+use filter::run_filter;
 use std::io;
-use std::io::{Read, Write};
 
 fn main(rt: HostRuntime) -> io::Result<()> {
-    let heap = rt.alloc();
-    let mut input = Vec::new(heap);
-    rt.stdin().read_to_end(&mut input)?;
-    let mut output = Vec::new(heap);
-    report_batch(&mut output, input.as_slice())?;
-    rt.stdout().write_all(output.as_slice())
+    run_filter(rt.alloc(), &mut rt.stdin(), &mut rt.stdout(), report_batch)
 }

@@ -1,4 +1,4 @@
-use Rattle.std.proofs.Common.{◌≡◌, ◌<◌, length, Err, unwrap_or, sym, refl, ap, ◌∙◌, arith}
+use Rattle.std.proofs.Common.{◌≡◌, ◌<◌, length, Err, sym, refl, ap, ◌∙◌, arith}
 use Rattle.std.specs.Slice.Iter.{chunks_exact_rest}
 use Rattle.std.proofs.lemmas.Result.{err_from_is_err_and}
 use Rattle.levels.specs.Scheme.{join_of}
@@ -15,6 +15,12 @@ loop-record-init g c =
     simp (c.into_iter-record-iterator.ensures.into_iter_gives, c.chunks_exact-record-items.ensures.size, c.chunks_exact-record-items.ensures.rest, c.lowest-level.ensures)
     (omega arith, omega arith, refl, low, refl)
 
+-- both are levels, so there is a join
+pub unwrap-level-requires : goal.unwrap-level-requires
+unwrap-level-requires g c =
+    let known = channel_level_below (g.met.S.Scheme.lattice c.args.scheme.now) c.args.sheet.now c.requires c.in_ok-ticket.ticket.channel in
+    rw (c.join-join.ensures, c.channel_level.ensures, join_some (g.S.Scheme.levels c.args.scheme.now) _ _ c.loop-record.invariant.3 known)
+
 pub loop-record-preserved : goal.loop-record-preserved
 loop-record-preserved g c =
     let L = g.S.Scheme.levels c.args.scheme.now in
@@ -23,9 +29,8 @@ loop-record-preserved g c =
     let other = channel_level c.args.sheet.now c.in_ok-ticket.ticket.channel in
     let known = channel_level_below laws c.args.sheet.now c.requires c.in_ok-ticket.ticket.channel in
     let old = c.loop-record.invariant in
-    let join : c.unwrap_or-level.result ≡ L.join c.loop-record.level other =
-    c.unwrap_or-level.ensures
-    ∙ ap (λ o. unwrap_or o c.loop-record.level) (c.join-join.ensures ∙ ap (join_of L c.loop-record.level) c.channel_level.ensures ∙ join_some L c.loop-record.level other old.3 known) in
+    let answer = c.join-join.ensures ∙ ap (join_of L c.loop-record.level) c.channel_level.ensures ∙ join_some L c.loop-record.level other old.3 known in
+    let join : c.unwrap-level.result ≡ L.join c.loop-record.level other = cc in
     let more = join_tickets_more L c.args.sheet.now c.loop-record.level (chunks_exact_rest c.loop-record.record-iterator) c.in-Some.record.now (chunks_exact_rest c.next.new.self)
     steps.1.0 (steps.1.1 ∙ old.2) c.in_ok-ticket.ticket (sym c.in_ok-ticket.ensures.value) in
     let size = steps.0 ∙ old.2 in

@@ -4,20 +4,12 @@ use Rattle.print.specs.declared.Entry.{Entry}
 use Rattle.print.specs.declared.Entry.TheVariants.{Word}
 use Rattle.print.specs.declared.Keyword.TheVariants as keyword
 use Rattle.print.specs.Lines.{entry_text, rest_text}
-use Rattle.print.proofs.Appending.{appended_more, appended_short, appended_all}
+use Rattle.print.proofs.Appending.{appended_short, appended_all}
 use Rattle.print.proofs.put_rest.Goals as goal
 
 -- what `get_or` answers past the end of a list of entries
 blank : Entry
 blank = Word keyword.In
-
-pub loop-entry-preserved : goal.loop-entry-preserved
-unfolding blank
-loop-entry-preserved c =
-    let es = c.args.entries.now in
-    let i = c.loop-entry.entry-index in
-    appended_more c.args.out.now _ _ (44 ∷ entry_text (get_or es i blank)) (rest_text (drop (i + 1) es)) (at_drop_more rest_text es i blank c.loop-entry-test.true)
-    c.loop-entry.out c.put_entry.new.out c.loop-entry.invariant tt c.in_ok-put_entry.ensures
 
 pub returns-in_err-put_entry : goal.returns-in_err-put_entry
 unfolding blank

@@ -1,7 +1,7 @@
 use Rattle.std.proofs.Common.{◌+◌, get_or, drop}
-use Rattle.std.proofs.lemmas.List.{at_drop_more, at_drop_all}
+use Rattle.std.proofs.lemmas.List.{at_drop_more}
 use Rattle.std.specs.List.{flat_map}
-use Rattle.print.proofs.Appending.{appended_more, appended_short, appended_whole}
+use Rattle.print.proofs.Appending.{appended_short}
 use Rattle.ticket.specs.declared.Ticket.{Ticket}
 use Rattle.reactions.specs.Reactions.{made_line}
 use Rattle.reactions.proofs.put_made.Goals as goal
@@ -10,23 +10,10 @@ use Rattle.reactions.proofs.put_made.Goals as goal
 abbrev blank : Ticket
 blank = record { channel = 0; value = 0 }
 
-pub loop-ticket-preserved : goal.loop-ticket-preserved
-loop-ticket-preserved c =
-    let ts = c.args.tickets.now in
-    let i = c.loop-ticket.ticket-index in
-    let lines = flat_map (made_line c.args.n) in
-    appended_more c.args.out.now _ _ (made_line c.args.n (get_or ts i blank)) (lines (drop (i + 1) ts)) (at_drop_more lines ts i blank c.loop-ticket-test.true)
-    c.loop-ticket.out c.put_ticket.new.out c.loop-ticket.invariant tt c.in_ok-put_ticket.ensures
-
 pub returns-in_err-put_ticket : goal.returns-in_err-put_ticket
 returns-in_err-put_ticket c =
     let ts = c.args.tickets.now in
     let i = c.loop-ticket.ticket-index in
     let lines = flat_map (made_line c.args.n) in
     appended_short c.args.out.now _ _ (made_line c.args.n (get_or ts i blank)) (lines (drop (i + 1) ts)) (at_drop_more lines ts i blank c.loop-ticket-test.true)
-    c.loop-ticket.out _ c.loop-ticket.invariant c.in_err-put_ticket.field-0.0 _ c.from_residual.ensures.0 c.in_err-put_ticket.ensures
-
-pub returns : goal.returns
-returns c =
-    let lines = flat_map (made_line c.args.n) in
-    appended_whole c.args.out.now _ _ (at_drop_all lines c.args.tickets.now c.loop-ticket.ticket-index c.loop-ticket-test.false) c.loop-ticket.out c.loop-ticket.invariant
+    c.loop-ticket.out _ c.loop-ticket.invariant _ _ c.from_residual.ensures.0 c.in_err-put_ticket.ensures

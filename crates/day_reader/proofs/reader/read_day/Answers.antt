@@ -1,22 +1,15 @@
-use Rattle.std.proofs.Common.{take, Ok, Err, vec_items, ap, ◌∙◌, arith}
+use Rattle.std.proofs.Common.{rules}
 use Rattle.day_reader.proofs.Answering.{truncated, answer_where_room, reads_accepts}
 use Rattle.day_reader.proofs.reader.read_day.Goals as goal
 
-pub returns-in-Ok : goal.returns-in-Ok
-returns-in-Ok c =
+pub returns-then-is_err : goal.returns-then-is_err
+returns-then-is_err c =
     let t = c.args.text.now in
     let old = c.args.records.now in
-    let new = c.append_records.new.records in
-    let h = c.in-Ok.ensures in
-    record { reads = h.records; answer = answer_where_room t old (Ok tt) new h.records; accepts = reads_accepts t old (Ok tt) new h.records; capacity = h.capacity }
-
-pub returns-in-Err : goal.returns-in-Err
-returns-in-Err c =
-    let t = c.args.text.now in
-    let old = c.args.records.now in
-    let mid = c.append_records.new.records in
+    let r = c.append_records-read.result in
     let new = c.truncate.new.self in
-    let e = c.in-Err.error in
-    let h = c.in-Err.ensures in
-    let s = truncated t old e mid new h.records (c.truncate.ensures.items ∙ ap (λ n. take n (vec_items mid)) c.len-before.ensures) in
-    record { reads = s; answer = answer_where_room t old (Err e) new s; accepts = reads_accepts t old (Err e) new s; capacity = omega (arith, h.capacity, c.truncate.ensures.capacity) }
+    let s = truncated t old r c.append_records-read.new.records new (search rules) c.append_records-read.ensures.records (search rules) in
+    record { reads = s; answer = answer_where_room t old r new s; accepts = reads_accepts t old r new s; capacity = search rules }
+
+pub returns-else-is_err-clause-accepts : goal.returns-else-is_err-clause-accepts
+returns-else-is_err-clause-accepts c = reads_accepts c.args.text.now c.args.records.now c.append_records-read.result c.append_records-read.new.records (search rules)

@@ -1,9 +1,5 @@
-use Rattle.std.proofs.Common.{length}
 use Rattle.sheet_reader.proofs.Filling.{ReadSoFar}
 use Rattle.sheet_reader.proofs.reader.fill_sheet.Given as goal
 
 abbrev pub invariant-loop-line : goal.invariant-loop-line
-invariant-loop-line g l = ReadSoFar (g.S.Scheme.levels l.scheme) l.initial.text l.left l.count l.named l.sheet
-
-abbrev pub decreases-loop-line : goal.decreases-loop-line
-decreases-loop-line g l = length l.left
+invariant-loop-line g l = ReadSoFar (g.S.Scheme.levels l.scheme) l.initial.text l.line-iterator l.named l.sheet

@@ -1,21 +1,11 @@
-use Rattle.std.proofs.Common.{Ok, Err, ◌∙◌}
-use Rattle.sheet_reader.specs.Reading.{reading}
-use Rattle.sheet_reader.proofs.Filling.{filled_answers, filled_sheet, zeroed_sheet}
+use Rattle.std.proofs.Common.{rules}
 use Rattle.sheet_reader.proofs.Sheets.{answer_accepts}
 use Rattle.sheet_reader.proofs.reader.read_sheet.Goals as goal
 
-pub returns-in-Ok : goal.returns-in-Ok
-returns-in-Ok g c =
-    let L = g.S.Scheme.levels c.args.scheme.now in
-    let h = c.in-Ok.ensures in
-    let v = filled_answers L.lowest (reading L c.args.text.now) (Ok tt) c.fill_sheet.new.sheet h in
-    let s = filled_sheet L.lowest (reading L c.args.text.now) c.fill_sheet.new.sheet h in
-    record { value = v; sheet = s; accepts = answer_accepts L c.args.text.now (Ok tt) c.fill_sheet.new.sheet v s }
+pub returns-then-is_err-clause-accepts : goal.returns-then-is_err-clause-accepts
+returns-then-is_err-clause-accepts g c =
+    answer_accepts (g.S.Scheme.levels c.args.scheme.now) c.args.text.now c.fill_sheet-read.result c.uniform.result (search rules) (search rules)
 
-pub returns-in-Err : goal.returns-in-Err
-returns-in-Err g c =
-    let L = g.S.Scheme.levels c.args.scheme.now in
-    let h = c.in-Err.ensures in
-    let v = filled_answers L.lowest (reading L c.args.text.now) (Err c.in-Err.fault) c.fill_sheet.new.sheet h in
-    let s = c.uniform.ensures ∙ zeroed_sheet L.lowest (reading L c.args.text.now) c.in-Err.fault c.fill_sheet.new.sheet h in
-    record { value = v; sheet = s; accepts = answer_accepts L c.args.text.now (Err c.in-Err.fault) c.uniform.result v s }
+pub returns-else-is_err-clause-accepts : goal.returns-else-is_err-clause-accepts
+returns-else-is_err-clause-accepts g c =
+    answer_accepts (g.S.Scheme.levels c.args.scheme.now) c.args.text.now c.fill_sheet-read.result c.fill_sheet-read.new.sheet (search rules) (search rules)
