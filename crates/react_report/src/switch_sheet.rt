@@ -11,7 +11,7 @@ pub fn load_switch<'a>(
     text: &[u8],
     lines: &'a mut [SwitchLine; SHEET_LIMIT],
 ) -> Result<Switch<'a>, Fault>
-    ensures { LoadsAs result (reading text.now) }
+    ensures { LoadsAs (λ m. m.lines.now) result (reading text.now) }
 {
     read_switch(text, lines)?;
     let mut machine = Switch::empty();
