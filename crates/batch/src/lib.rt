@@ -31,6 +31,7 @@ fn join_tickets<S: Scheme>(scheme: &S, sheet: &LevelSheet, bytes: &[u8]) -> Resu
     for record in bytes.chunks_exact(8) {
         let ticket = Ticket::decode(record)?;
         let join = scheme.join(level, sheet.channel_level(ticket.channel));
+        // Both are levels, so there is a join.
         level = join.unwrap();
     }
     Ok(level)

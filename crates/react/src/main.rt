@@ -1,4 +1,4 @@
-// Feeds a switch sheet with in-tickets: reads the sheet, a line `-` and the tickets, and prints what each is answered by.
+// Feeds a machine with in-tickets: reads its text, a line `-` and the tickets, and prints what each is answered by.
 #![tactic(auto)]
 
 use filter::run_filter;
