@@ -6,7 +6,7 @@ use fault::Fault;
 use switch::{SHEET_LIMIT, SwitchLine, read_switch};
 use switch_machine::Switch;
 
-// Apart from load_program, which fills two tables and loads by two.
+// The machine of a text, in one lent table; load_program has two, so they stay apart.
 pub fn load_switch<'a>(
     text: &[u8],
     lines: &'a mut [SwitchLine; SHEET_LIMIT],

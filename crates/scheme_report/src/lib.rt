@@ -1,4 +1,4 @@
-// The report on an input of three parts: a scheme, a level sheet, and what is told of under them.
+// The report on an input of three parts: a scheme, a level sheet, and a part that is reported on under them.
 #![tactic(auto)]
 
 ghost use Rattle.std.specs.Prelude.{ℕ, List};
