@@ -14,7 +14,7 @@ pub struct Stalled;
 pub struct Job {
     pub words: Words,
     pub slip: Slip,
-    // How many tickets are made.
+    // How many tickets are made: a slip is lent whole, and keeps beyond them what it held.
     pub made: usize,
     // The steps left.
     pub left: u16,

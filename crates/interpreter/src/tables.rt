@@ -5,6 +5,7 @@ ghost use Rattle.interpreter.specs.OneProof.{sound_prop};
 use crate::job::{Job, Stalled};
 use program::{Kind, Row, Term};
 
+// Rows and terms whose expressions are whole, and whose partners are where blocks end.
 #[derive(Clone, Copy)]
 pub struct Tables<'a> {
     pub rows: &'a [Row],
@@ -12,6 +13,7 @@ pub struct Tables<'a> {
     pub ghost sound: { Sound rows.now terms.now } by { sound_prop rows.now terms.now },
 }
 
+// A place is a plain number: in a type of its own, each step to the next would be a proof that it is inside a block.
 impl Tables<'_> {
     ghost use Rattle.std.specs.Prelude.{◌≡◌, ◌+◌, ◌<◌, length, slice_index_or};
     ghost use Rattle.program.specs.Building.{blank_row};
