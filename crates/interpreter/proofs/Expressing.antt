@@ -22,6 +22,5 @@ expressed terms u e k p more here range =
     let q : expressions (terms_at terms (row k u (length (terms_of e)) p)) ≡ e ∷ [] = ap expressions t ∙ expression_is_spelled e in
     record {
       there = omega (arith, some_term e, length-drop u terms, ap length here, length-append (terms_of e) more);
-      one = q ∙ ap (λ x. x ∷ []) (sym (ap first_expression q));
-      ranged = subst InRange (sym (ap first_expression q)) range;
+      whole = record { one = q ∙ ap (λ x. x ∷ []) (sym (ap first_expression q)); ranged = subst InRange (sym (ap first_expression q)) range };
     }

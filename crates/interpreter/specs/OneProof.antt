@@ -1,4 +1,4 @@
--- That tables are sound has one proof at most, so that a type can hold it. Assumes nothing.
+-- That terms make one expression and that tables are sound have one proof each at most, so that types can hold them. Assumes nothing.
 use Rattle.std.specs.Prelude.{◌≡◌, ℕ, ◌⊎◌, List}
 use Rattle.std.proofs.Common.{sym, ap, ◌∙◌, inl, inr}
 use Rattle.std.specs.Coded.{×_prop}
@@ -13,7 +13,7 @@ use Rattle.program.specs.declared.rows.Row.{Row}
 use Rattle.program.specs.declared.rows.Term.{Term}
 use Rattle.program.specs.Trees.{Frame, Frame-set}
 use Rattle.program.specs.Writing.{InRange}
-use Rattle.interpreter.specs.Sound.{Expressed, ClosesAlone, Parts, SoundRow, Sound}
+use Rattle.interpreter.specs.Sound.{OneExpression, Expressed, ClosesAlone, Parts, SoundRow, Sound}
 
 operator_set : IsSet Operator
 operator_set = hlevel (props, ⊎_set)
@@ -36,8 +36,11 @@ in_range_prop (constant n) = hlevel props
 in_range_prop (variable v) = hlevel props
 in_range_prop (binary o l r) = ×_prop (in_range_prop l) (in_range_prop r)
 
+pub one_expression_prop : (terms : List Term) → IsProp (OneExpression terms)
+one_expression_prop terms = hlevel (props, in_range_prop, expr_set)
+
 expressed_prop : (terms : List Term) (r : Row) → IsProp (Expressed terms r)
-expressed_prop terms r = hlevel (props, in_range_prop, expr_set)
+expressed_prop terms r = hlevel (props, one_expression_prop)
 
 module _ (rows : List Row) (terms : List Term) (i p q : ℕ) where
   alone_prop : IsProp (ClosesAlone rows terms i p)

@@ -80,6 +80,6 @@ block_at rows terms i k = here (frames_at rows terms i) ⨟ k
 abbrev pub row_at : List Row → List Term → ℕ → Block → Block
 row_at rows terms i k = command (get_or rows i blank_row).kind (expression_at terms (slice_index_or rows i blank_row)) (frames_at rows terms (i + 1)) k
 
--- the block behind row i while the row's test holds, and then k
-abbrev pub repeat_at : List Row → List Term → ℕ → Block → Block
-repeat_at rows terms i k = repeat (expression_at terms (slice_index_or rows i blank_row)) (here (frames_at rows terms (i + 1))) k
+-- what is left of the innermost block before row i while a test holds, and then k
+abbrev pub repeat_at : List Row → List Term → Expr → ℕ → Block → Block
+repeat_at rows terms e i k = repeat e (here (frames_at rows terms i)) k

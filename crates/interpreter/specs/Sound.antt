@@ -6,15 +6,19 @@ use Rattle.program.specs.declared.rows.Kind.TheVariants as kind
 use Rattle.program.specs.declared.rows.Row.{Row}
 use Rattle.program.specs.declared.rows.Term.{Term}
 use Rattle.program.specs.Building.{blank_row}
-use Rattle.program.specs.Trees.{expressions, whole, around}
+use Rattle.program.specs.Trees.{expressions, expression_of, whole, around}
 use Rattle.program.specs.Writing.{InRange}
-use Rattle.interpreter.specs.Places.{terms_at, expression_at, frames_at, second_of}
+use Rattle.interpreter.specs.Places.{terms_at, frames_at, second_of}
+
+-- terms make one expression with its numbers in range
+pub record OneExpression (terms : List Term) : Type 0 where
+  pub one : expressions terms ≡ expression_of terms ∷ []
+  pub ranged : InRange (expression_of terms)
 
 -- the terms of a row are there, and make one expression with its numbers in range
 pub record Expressed (terms : List Term) (r : Row) : Type 0 where
   pub there : r.first + r.count ≤ length terms
-  pub one : expressions (terms_at terms r) ≡ expression_at terms r ∷ []
-  pub ranged : InRange (expression_at terms r)
+  pub whole : OneExpression (terms_at terms r)
 
 -- row p closes the block that begins behind row i
 pub record Closes (rows : List Row) (terms : List Term) (i p : ℕ) : Type 0 where

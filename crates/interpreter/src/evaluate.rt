@@ -1,13 +1,12 @@
 // The values of expressions in a reaction under way.
 ghost use Rattle.std.specs.Prelude.{◌≡◌};
+ghost use Rattle.program.specs.Trees.{expression_of};
 ghost use Rattle.interpreter.specs.Jobs.{worth};
-ghost use Rattle.interpreter.specs.Places.{expression_at};
-ghost use Rattle.interpreter.specs.Sound.{Expressed};
 
+use crate::expression::Expression;
 use crate::fold::{Algebra, fold_expression};
 use crate::job::Job;
 use language::Operator;
-use program::{Row, Term};
 
 impl Algebra for Job {
     type Value = u32;
@@ -32,11 +31,10 @@ impl Algebra for Job {
 }
 
 impl Job {
-    // The value of a row's expression.
-    pub fn evaluate(&self, terms: &[Term], row: Row) -> u32
-        requires { Expressed terms.now row }
-        ensures { result ≡ worth self.now (expression_at terms.now row) }
+    // The value of an expression.
+    pub fn evaluate(&self, expression: Expression<'_>) -> u32
+        ensures { result ≡ worth self.now (expression_of expression.entry.terms.now) }
     {
-        fold_expression(terms, row, self)
+        fold_expression(expression, self)
     }
 }

@@ -3,11 +3,11 @@ ghost use Rattle.std.specs.Prelude.{◌≡◌, ◌<◌, length};
 ghost use Rattle.language.specs.Expression.{Expr, input, constant, variable, binary};
 ghost use Rattle.program.specs.Trees.{expressions, expression_of};
 ghost use Rattle.program.specs.Writing.{InRange};
-ghost use Rattle.interpreter.specs.Places.{expression_at, rest_expressions};
-ghost use Rattle.interpreter.specs.Sound.{Expressed};
+ghost use Rattle.interpreter.specs.Places.{rest_expressions};
 
+use crate::expression::Expression;
 use language::Operator;
-use program::{Row, Term};
+use program::Term;
 
 // What the parts of an expression come to.
 pub trait Algebra {
@@ -53,13 +53,10 @@ fn fold_first<'a, A: Algebra>(terms: &'a [Term], algebra: &A) -> (A::Value, &'a 
     }
 }
 
-// Folds the expression of a row.
-pub fn fold_expression<A: Algebra>(terms: &[Term], row: Row, algebra: &A) -> A::Value
-    requires { Expressed terms.now row }
-    ensures { A.means algebra.now (expression_at terms.now row) result }
+// Folds a whole expression.
+pub fn fold_expression<A: Algebra>(expression: Expression<'_>, algebra: &A) -> A::Value
+    ensures { A.means algebra.now (expression_of expression.entry.terms.now) result }
 {
-    let first = row.first as usize;
-    let end = first + row.count as usize;
-    let (value, _) = fold_first(&terms[first..end], algebra);
+    let (value, _) = fold_first(expression.terms, algebra);
     value
 }

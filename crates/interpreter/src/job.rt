@@ -1,8 +1,8 @@
 // One reaction under way: what it has made so far, and what is left to it.
 ghost use Rattle.std.specs.Prelude.{◌≤◌, length};
 
+use crate::expression::Expression;
 use machine::{Slip, Words};
-use program::{Row, Term};
 use ticket::Ticket;
 
 // No step was left, or no room for a ticket.
@@ -26,9 +26,8 @@ pub struct Job {
 impl Job {
     ghost use Rattle.std.specs.Prelude.{◌≡◌, ◌<◌, ◌==◌};
     ghost use Rattle.language.specs.Block.{assign, output};
+    ghost use Rattle.program.specs.Trees.{expression_of};
     ghost use Rattle.interpreter.specs.Jobs.{due, spent, Runs};
-    ghost use Rattle.interpreter.specs.Places.{expression_at};
-    ghost use Rattle.interpreter.specs.Sound.{Expressed};
 
     fn is_full(&self) -> bool
         ensures { result ≡ (self.now.made == 16) }
@@ -48,27 +47,25 @@ impl Job {
         Ok(())
     }
 
-    // Gives a variable the value of a row's expression, in a step.
-    pub fn store(&mut self, variable: u8, terms: &[Term], row: Row) -> Result<(), Stalled>
-        requires known { variable < 16 }
-        requires expressed { Expressed terms.now row }
-        ensures { Runs self.old (assign variable (expression_at terms.now row)) result self.new }
+    // Gives a variable the value of an expression, in a step.
+    pub fn store(&mut self, variable: u8, expression: Expression<'_>) -> Result<(), Stalled>
+        requires { variable < 16 }
+        ensures { Runs self.old (assign variable (expression_of expression.entry.terms.now)) result self.new }
     {
         self.spend()?;
-        self.words[variable as usize] = self.evaluate(terms, row);
+        self.words[variable as usize] = self.evaluate(expression);
         Ok(())
     }
 
-    // Makes a ticket of the value of a row's expression, in a step.
-    pub fn send(&mut self, channel: u8, terms: &[Term], row: Row) -> Result<(), Stalled>
-        requires expressed { Expressed terms.now row }
-        ensures { Runs self.old (output channel (expression_at terms.now row)) result self.new }
+    // Makes a ticket of the value of an expression, in a step.
+    pub fn send(&mut self, channel: u8, expression: Expression<'_>) -> Result<(), Stalled>
+        ensures { Runs self.old (output channel (expression_of expression.entry.terms.now)) result self.new }
     {
         if self.is_full() {
             return Err(Stalled);
         }
         self.spend()?;
-        let value = self.evaluate(terms, row);
+        let value = self.evaluate(expression);
         self.slip[self.made] = Ticket { channel, value };
         self.made += 1;
         Ok(())

@@ -4,11 +4,13 @@
 ghost use Rattle.interpreter.specs.Laws.{FlatIsSound, SoundIsLawful};
 
 mod evaluate;
+mod expression;
 mod fold;
 mod job;
 mod react;
 mod tables;
 
+pub use expression::Expression;
 pub use fold::{Algebra, fold_expression};
 pub use tables::Tables;
 

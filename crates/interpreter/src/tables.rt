@@ -2,6 +2,7 @@
 ghost use Rattle.interpreter.specs.Sound.{Sound};
 ghost use Rattle.interpreter.specs.OneProof.{sound_prop};
 
+use crate::expression::Expression;
 use crate::job::{Job, Stalled};
 use program::{Kind, Row, Term};
 
@@ -15,11 +16,10 @@ pub struct Tables<'a> {
 
 // A place is a plain number: in a type of its own, each step to the next would be a proof that it is inside a block.
 impl Tables<'_> {
-    ghost use Rattle.std.specs.Prelude.{◌≡◌, ◌+◌, ◌<◌, length, slice_index_or};
-    ghost use Rattle.program.specs.Building.{blank_row};
+    ghost use Rattle.std.specs.Prelude.{◌≡◌, ◌+◌, ◌<◌, length};
+    ghost use Rattle.program.specs.Trees.{expression_of};
     ghost use Rattle.interpreter.specs.Jobs.{Runs};
     ghost use Rattle.interpreter.specs.Places.{frames_at, next_at, block_at, row_at, repeat_at};
-    ghost use Rattle.interpreter.specs.Sound.{Expressed};
 
     // The row behind a row and the blocks that it opens.
     fn after(&self, at: usize) -> usize
@@ -61,12 +61,12 @@ impl Tables<'_> {
         let row = self.rows[at];
         match row.kind {
             Kind::Skip => job.spend(),
-            Kind::Assign(variable) => job.store(variable, self.terms, row),
-            Kind::Output(channel) => job.send(channel, self.terms, row),
+            Kind::Assign(variable) => job.store(variable, self.expression(row)),
+            Kind::Output(channel) => job.send(channel, self.expression(row)),
             Kind::If => {
                 job.spend()?;
                 let end = row.partner as usize;
-                if job.evaluate(self.terms, row) != 0 {
+                if job.evaluate(self.expression(row)) != 0 {
                     self.block(at + 1, job)
                 } else if self.rows[end].kind == Kind::Else {
                     self.block(end + 1, job)
@@ -74,26 +74,24 @@ impl Tables<'_> {
                     Ok(())
                 }
             }
-            Kind::While => self.turns(at, job),
+            Kind::While => self.turns(self.expression(row), at + 1, job),
             Kind::Handler(_) | Kind::Else | Kind::Close => Ok(()),
         }
     }
 
-    // Runs the block behind a row again and again, while the row's test holds.
+    // Runs what is left of a block, from a row on, again and again, while a test holds.
     #[cycle(run)]
-    fn turns(&self, at: usize, job: &mut Job) -> Result<(), Stalled>
-        requires within { at + 1 < length self.now.rows.now }
-        requires inside { 0 < length (frames_at self.now.rows.now self.now.terms.now (at + 1)) }
-        requires expressed { Expressed self.now.terms.now (slice_index_or self.now.rows.now at blank_row) }
-        ensures { Runs job.old (repeat_at self.now.rows.now self.now.terms.now at) result job.new }
+    fn turns(&self, test: Expression<'_>, from: usize, job: &mut Job) -> Result<(), Stalled>
+        requires within { from < length self.now.rows.now }
+        requires inside { 0 < length (frames_at self.now.rows.now self.now.terms.now from) }
+        ensures { Runs job.old (repeat_at self.now.rows.now self.now.terms.now (expression_of test.entry.terms.now) from) result job.new }
     {
-        let row = self.rows[at];
         loop {
             job.spend()?;
-            if job.evaluate(self.terms, row) == 0 {
+            if job.evaluate(test) == 0 {
                 return Ok(());
             }
-            self.block(at + 1, job)?;
+            self.block(from, job)?;
         }
     }
 }

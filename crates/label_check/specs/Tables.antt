@@ -1,13 +1,13 @@
 -- The label rule by a table of joins, and how a check goes on from a row. Assumes nothing.
-use Rattle.std.specs.Prelude.{◌≡◌, ℕ, ◌+◌, ◌<◌, ◌≤◌, true, cond, List, ◌∷◌, drop, Some, None, Ok, Err, Option, Result, ◌==◌, slice_index_or}
+use Rattle.std.specs.Prelude.{◌≡◌, ℕ, ◌+◌, ◌<◌, ◌≤◌, true, cond, List, ◌∷◌, drop, Some, None, Ok, Err, Option, Result, ◌==◌}
 use Rattle.fault.specs.declared.Fault.{Fault}
 use Rattle.levels.specs.Scheme.{Levels}
 use Rattle.sheet.specs.declared.LevelSheet.{LevelSheet}
 use Rattle.sheet.specs.Sheets.{has_sheet, checked}
+use Rattle.language.specs.Expression.{Expr}
 use Rattle.program.specs.declared.rows.Row.{Row}
 use Rattle.program.specs.declared.rows.Term.{Term}
-use Rattle.program.specs.Building.{blank_row, lines_from}
-use Rattle.interpreter.specs.Places.{expression_at}
+use Rattle.program.specs.Building.{lines_from}
 use Rattle.typing.specs.Labels.{Labels, labels_of}
 use Rattle.typing.specs.Rule.{raised}
 use Rattle.label_check.specs.declared.check.Check.{Check}
@@ -48,12 +48,11 @@ abbrev pub resume : Result ℕ Leak → (ℕ → Option ℕ) → Option ℕ
 resume (Ok at) go = go at
 resume (Err l) go = Some l.row
 
--- what row i tells its target, where pc is the program counter level
-abbrev pub told : Check → ℕ → ℕ → ℕ → Result ℕ Leak
-told c pc target i =
+-- what row i tells its target by an expression, where pc is the program counter level
+abbrev pub told : Check → Expr → ℕ → ℕ → ℕ → Result ℕ Leak
+told c e pc target i =
     let labels = labels_in c.table.now in
-    let r = slice_index_or c.program.rows.now i blank_row in
-    cond (labels.scheme.below (raised labels c.input.number pc (expression_at c.program.terms.now r)) target) (Ok (i + 1)) (Err (record { row = i }))
+    cond (labels.scheme.below (raised labels c.input.number pc e) target) (Ok (i + 1)) (Err (record { row = i }))
 
 abbrev pub onward_in : Check → List ℕ → ℕ → Option ℕ
 onward_in c = onward (labels_in c.table.now) c.program.rows.now c.program.terms.now c.input.number

@@ -1,14 +1,14 @@
 // The scan of a program's rows: a block, and a row with the block that it opens, call each other.
 ghost use Rattle.std.specs.Prelude.{◌≡◌, ◌+◌, ◌<◌, ◌≤◌, ◌≢◌, length, slice_index_or};
-ghost use Rattle.interpreter.specs.Sound.{Expressed};
 ghost use Rattle.program.specs.declared.rows.Kind.TheVariants as kind;
 ghost use Rattle.program.specs.Building.{blank_row, lines_from};
+ghost use Rattle.program.specs.Trees.{expression_of};
 ghost use Rattle.label_check.specs.Rows.{first_leak};
 ghost use Rattle.label_check.specs.Tables.{labels_in, found, told, ChecksBlock, ChecksRow, Onward, Among};
 
 use crate::level::Level;
 use crate::table::Table;
-use interpreter::Tables;
+use interpreter::{Expression, Tables};
 use program::Kind;
 
 // A row that breaks the rule.
@@ -27,13 +27,18 @@ pub struct Check<'a> {
 
 // pc is the program counter level of a row or block: the join of the levels of the handler's channel and of the tests around it.
 impl Check<'_> {
-    // Checks what a row tells its target. Returns the row behind it.
-    fn tell(&self, at: usize, pc: Level, target: Level) -> Result<usize, Leak>
-        requires within { at < length self.now.program.rows.now }
-        requires expressed { Expressed self.now.program.terms.now (slice_index_or self.now.program.rows.now at blank_row) }
-        ensures { result ≡ told self.now pc.number target.number at }
+    // Checks what a row tells its target by its expression. Returns the row behind it.
+    fn tell(
+        &self,
+        at: usize,
+        expression: Expression<'_>,
+        pc: Level,
+        target: Level,
+    ) -> Result<usize, Leak>
+        requires { at < usize.MAX }
+        ensures { result ≡ told self.now (expression_of expression.entry.terms.now) pc.number target.number at }
     {
-        let told = self.raised(self.program.rows[at], pc);
+        let told = self.raised(expression, pc);
         if self.table.at_or_below(told, target) {
             Ok(at + 1)
         } else {
@@ -69,9 +74,22 @@ impl Check<'_> {
     {
         let row = self.program.rows[at];
         match row.kind {
-            Kind::Assign(variable) => self.tell(at, pc, self.table.variable(variable)),
-            Kind::Output(channel) => self.tell(at, pc, self.table.channel(channel)),
-            Kind::If | Kind::While => self.block(at + 1, self.raised(row, pc)),
+            Kind::Assign(variable) => self.tell(
+                at,
+                self.program.expression(row),
+                pc,
+                self.table.variable(variable),
+            ),
+            Kind::Output(channel) => self.tell(
+                at,
+                self.program.expression(row),
+                pc,
+                self.table.channel(channel),
+            ),
+            Kind::If | Kind::While => self.block(
+                at + 1,
+                self.raised(self.program.expression(row), pc),
+            ),
             Kind::Skip | Kind::Handler(_) | Kind::Else | Kind::Close => Ok(at + 1),
         }
     }

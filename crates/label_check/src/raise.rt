@@ -1,15 +1,13 @@
 // The levels of expressions in a handler's check.
 ghost use Rattle.std.specs.Prelude.{◌≡◌};
-ghost use Rattle.interpreter.specs.Places.{expression_at};
-ghost use Rattle.interpreter.specs.Sound.{Expressed};
+ghost use Rattle.program.specs.Trees.{expression_of};
 ghost use Rattle.typing.specs.Rule.{level_of, raised};
 ghost use Rattle.label_check.specs.Tables.{labels_in};
 
 use crate::check::Check;
 use crate::level::Level;
-use interpreter::{Algebra, fold_expression};
+use interpreter::{Algebra, Expression, fold_expression};
 use language::Operator;
-use program::Row;
 
 impl Algebra for Check<'_> {
     type Value = Level;
@@ -34,12 +32,11 @@ impl Algebra for Check<'_> {
 }
 
 impl Check<'_> {
-    // The program counter level pc, raised by a row's expression.
-    pub fn raised(&self, row: Row, pc: Level) -> Level
-        requires { Expressed self.now.program.terms.now row }
-        ensures { result.number ≡ raised (labels_in self.now.table.now) self.now.input.number pc.number (expression_at self.now.program.terms.now row) }
+    // The program counter level pc, raised by an expression.
+    pub fn raised(&self, expression: Expression<'_>, pc: Level) -> Level
+        ensures { result.number ≡ raised (labels_in self.now.table.now) self.now.input.number pc.number (expression_of expression.entry.terms.now) }
     {
-        let level = fold_expression(self.program.terms, row, self);
+        let level = fold_expression(expression, self);
         self.table.join(pc, level)
     }
 }

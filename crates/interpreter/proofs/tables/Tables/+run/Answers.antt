@@ -1,9 +1,8 @@
-use Rattle.std.proofs.Common.{ℕ, ◌+◌, ◌<◌, length, get_or, sym, refl, ◌∙◌, subst}
+use Rattle.std.proofs.Common.{ℕ, ◌<◌, length, sym, refl, ◌∙◌, subst}
 use Rattle.std.proofs.lemmas.Bool.{false≢true}
-use Rattle.program.specs.Building.{blank_row}
-use Rattle.program.specs.Trees.{here}
+use Rattle.program.specs.Trees.{expression_of, here}
 use Rattle.interpreter.specs.Jobs.{Reaches}
-use Rattle.interpreter.specs.Places.{expression_at, frames_at, next_at, block_at, row_at, repeat_at}
+use Rattle.interpreter.specs.Places.{frames_at, next_at, block_at, row_at, repeat_at}
 use Rattle.interpreter.proofs.Chains.{reaches_more, stalls_in_first}
 use Rattle.interpreter.proofs.Frames.{open_is_within, goes}
 use Rattle.interpreter.proofs.Moves.{turned}
@@ -47,20 +46,20 @@ pub turns-returns-in_err-block : goal.turns-returns-in_err-block
 turns-returns-in_err-block t c =
     let rows = c.args.self.now.rows.now in
     let terms = c.args.self.now.terms.now in
-    let e = expression_at terms (get_or rows c.args.at blank_row) in
-    let body = block_at rows terms (c.args.at + 1) in
-    let again = repeat_at rows terms c.args.at in
+    let e = expression_of c.args.test.terms.now in
+    let body = block_at rows terms c.args.from in
+    let again = repeat_at rows terms e c.args.from in
     let spend = c.in_ok-spend.ensures in
-    let come = turned c.loop-job.job c.spend.new.self spend.job spend.due c.args.job.now e (here (frames_at rows terms (c.args.at + 1))) c.loop-job.invariant (λ z. c.if-evaluate-eq0.false (c.evaluate.ensures ∙ z)) in
+    let come = turned c.loop-job.job c.spend.new.self spend.job spend.due c.args.job.now e (here (frames_at rows terms c.args.from)) c.loop-job.invariant (λ z. c.if-evaluate-eq0.false (c.evaluate.ensures ∙ z)) in
     stalls_in_first c.args.job.now c.spend.new.self c.block.new.job again (λ k. body (again k)) come body again (λ k. refl) _ c.from_residual-in_err-block.result c.from_residual-in_err-block.ensures.0 c.in_err-block.ensures
 
 pub turns-loop-job-preserved : goal.turns-loop-job-preserved
 turns-loop-job-preserved t c =
     let rows = c.args.self.now.rows.now in
     let terms = c.args.self.now.terms.now in
-    let e = expression_at terms (get_or rows c.args.at blank_row) in
-    let body = block_at rows terms (c.args.at + 1) in
-    let again = repeat_at rows terms c.args.at in
+    let e = expression_of c.args.test.terms.now in
+    let body = block_at rows terms c.args.from in
+    let again = repeat_at rows terms e c.args.from in
     let spend = c.in_ok-spend.ensures in
-    let come = turned c.loop-job.job c.spend.new.self spend.job spend.due c.args.job.now e (here (frames_at rows terms (c.args.at + 1))) c.loop-job.invariant (λ z. c.if-evaluate-eq0.false (c.evaluate.ensures ∙ z)) in
+    let come = turned c.loop-job.job c.spend.new.self spend.job spend.due c.args.job.now e (here (frames_at rows terms c.args.from)) c.loop-job.invariant (λ z. c.if-evaluate-eq0.false (c.evaluate.ensures ∙ z)) in
     reaches_more c.args.job.now c.spend.new.self c.block.new.job again (λ k. body (again k)) come body again (λ k. refl) c.in_ok-block.ensures

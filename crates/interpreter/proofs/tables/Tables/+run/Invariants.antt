@@ -1,4 +1,5 @@
 use Rattle.std.proofs.Common.{◌+◌, ◌-◌, ◌*◌, ◌<◌, length}
+use Rattle.program.specs.Trees.{expression_of}
 use Rattle.interpreter.specs.Jobs.{Reaches}
 use Rattle.interpreter.specs.Places.{frames_at, block_at, repeat_at}
 use Rattle.interpreter.proofs.tables.Tables.+run.Given as goal
@@ -22,7 +23,7 @@ abbrev pub decreases-block-loop-at : goal.decreases-block-loop-at
 decreases-block-loop-at l = length l.self.rows.now - l.at
 
 abbrev pub invariant-turns-loop-job : goal.invariant-turns-loop-job
-invariant-turns-loop-job l = Reaches l.initial.job (repeat_at l.self.rows.now l.self.terms.now l.at) l.job (repeat_at l.self.rows.now l.self.terms.now l.at)
+invariant-turns-loop-job l = let again = repeat_at l.self.rows.now l.self.terms.now (expression_of l.test.terms.now) l.from in Reaches l.initial.job again l.job again
 
 abbrev pub decreases-turns-loop-job : goal.decreases-turns-loop-job
 decreases-turns-loop-job l = l.job.left
