@@ -11,6 +11,7 @@ use Rattle.program.specs.Building.{blank_row}
 use Rattle.program.specs.Lines.{Line}
 use Rattle.program.specs.Trees.{whole, around}
 use Rattle.program.specs.Writing.{terms_of, else_line, close_line, block_lines, lines_of, all_terms, row, width, block_rows, tree_rows, flat_rows, flat_terms, FitBlock, FitHandler}
+use Rattle.program.proofs.Flattening.{all_terms_append}
 use Rattle.interpreter.specs.Laws.{FlatIsSound}
 use Rattle.interpreter.specs.Places.{frames_at, second_of}
 use Rattle.interpreter.specs.Sound.{Closes, Parts, SoundRow}
@@ -29,10 +30,6 @@ place_within l j x xs e = omega (arith, length-drop j l, ap length e)
 
 item_at : {X : Type 0} (l : List X) (j : ℕ) (d x : X) (xs : List X) → drop j l ≡ x ∷ xs → get_or l j d ≡ x
 item_at l j d x xs e = ap (λ i. get_or l i d) (omega arith) ∙ sym (get_or-drop j l 0 d) ∙ ap (λ m. get_or m 0 d) e
-
-all_terms_append : (ls ms : List Line) → all_terms (ls ++ ms) ≡ all_terms ls ++ all_terms ms
-all_terms_append [] ms = refl
-all_terms_append (l ∷ ls) ms = ap (λ ts. l.1 ++ ts) (all_terms_append ls ms) ∙ sym (append_assoc l.1 (all_terms ls) (all_terms ms))
 
 -- a line without an expression adds no terms
 over_gap : (ls ms : List Line) (k : Kind) (ts : List Term) → all_terms (ls ++ (k, []) ∷ ms) ++ ts ≡ all_terms ls ++ (all_terms ms ++ ts)

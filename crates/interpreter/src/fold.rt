@@ -38,6 +38,7 @@ fn fold_first<'a, A: Algebra>(terms: &'a [Term], algebra: &A) -> (A::Value, &'a 
     ensures rest { expressions result.1.now ≡ rest_expressions (expressions terms.now) }
     ensures shorter { length result.1.now < length terms.now }
 {
+    // A whole expression has a first term.
     let [term, rest @ ..] = terms else {
         unreachable!()
     };
