@@ -37,7 +37,7 @@ mod tests {
             read_sheet(b"C,0,1", &Chain::new(2)?, &mut sheet),
             Err(placed(Reason::Ragged, 1, 0))
         );
-        assert!(rt; sheet.channels[0] == 0 && sheet.variables[15] == 0);
+        assert_eq!(rt; sheet, LevelSheet::uniform(0));
         Ok(())
     }
 
@@ -48,28 +48,40 @@ mod tests {
             read_switch(b"", &mut lines),
             Err(Fault::unplaced(Reason::Slip))
         );
-        assert!(rt; lines[0].state == 1 && lines[62].value == 6);
+        assert_eq!(rt; lines, [LINE; 63]);
     }
 
     #[test]
     fn what_is_lent_past_the_sheet_is_zeroed(rt: HostRuntime) {
         let mut lines = [LINE; 66];
         assert_eq!(rt; read_switch(b"T,7,0,0,0,0,-,0\n", &mut lines), Ok(1));
-        assert!(rt; lines[0].state == 7 && lines[1].state == 0 && lines[65].value == 0);
+        assert_eq!(rt;
+            lines[0],
+            SwitchLine {
+                state: 7,
+                ..SwitchLine::BLANK
+            }
+        );
+        assert_eq!(rt; &lines[1..], [SwitchLine::BLANK; 65].as_slice());
         let mut lines = [LINE; 66];
         assert_eq!(rt;
             read_switch(b"T,7,0,0,0,0,-,0\nT\n", &mut lines),
             Err(placed(Reason::Field, 2, 2))
         );
-        assert!(rt; lines[0].state == 0 && lines[65].value == 0);
+        assert_eq!(rt; lines, [SwitchLine::BLANK; 66]);
     }
 
     #[test]
     fn a_sheet_names_levels_and_leaves_the_lowest_elsewhere(rt: HostRuntime) -> Result<(), Fail> {
         let mut sheet = LevelSheet::uniform(9);
-        assert!(rt; read_sheet(b"C,31,1\nV,15,2\n", &Chain::new(3)?, &mut sheet).is_ok());
-        assert!(rt; sheet.channels[31] == 1 && sheet.channels[0] == 0);
-        assert!(rt; sheet.variables[15] == 2 && sheet.variables[0] == 0);
+        assert_eq!(rt;
+            read_sheet(b"C,31,1\nV,15,2\n", &Chain::new(3)?, &mut sheet),
+            Ok(())
+        );
+        let mut expected = LevelSheet::uniform(0);
+        expected.channels[31] = 1;
+        expected.variables[15] = 2;
+        assert_eq!(rt; sheet, expected);
         Ok(())
     }
 }

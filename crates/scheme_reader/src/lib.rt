@@ -11,7 +11,7 @@ use fault::{Fault, Reason};
 use levels::{Chain, Parties};
 use text::{Field, Fields, Line, Lines};
 
-#[derive(Clone, Copy)]
+#[derive(Clone, Copy, PartialEq, Eq, Debug)]
 pub enum SchemeChoice {
     Chain(Chain),
     Parties(Parties),

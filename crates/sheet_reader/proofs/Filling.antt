@@ -1,20 +1,20 @@
 -- The loop that gives a lent sheet the levels of the lines of a text. Assumes nothing.
-use Rattle.std.proofs.Common.{◌≡◌, ℕ, ◌<◌, Bool, true, false, List, [], ◌∷◌, ◌++◌, get_or, set, replicate, Ok, sym, refl, ap, ◌∙◌, subst}
+use Rattle.std.proofs.Common.{◌≡◌, ℕ, ◌<◌, Bool, true, false, List, [], ◌∷◌, ◌++◌, get_or, set, Ok, sym, refl, ap, ◌∙◌, subst}
 use Rattle.levels.specs.Scheme.{Levels}
 use Rattle.sheet.specs.declared.LevelSheet.{LevelSheet}
 use Rattle.sheet.specs.Sheets.{uniform}
 use Rattle.text.specs.declared.line.Line.{Line}
 use Rattle.text.specs.declared.lines.Lines.{Lines}
 use Rattle.text.specs.Building.{two_steps}
-use Rattle.text.specs.Numbered.{Begun, Gives}
-use Rattle.text.proofs.Steps.{read_on, begun_is_short, first_is_read, line_is_built}
+use Rattle.text.specs.Numbered.{Gives}
+use Rattle.text.proofs.Steps.{read_on, line_is_built}
 use Rattle.sheet_reader.specs.declared.line.SheetLine.{SheetLine}
 use Rattle.sheet_reader.specs.Naming.{place_of, has_name, given, all_given, sheet_of}
-use Rattle.sheet_reader.specs.Reading.{parse, add, lines_in, reading}
+use Rattle.sheet_reader.specs.Reading.{parse, add, reading}
 use Rattle.sheet_reader.specs.Writing.{Fit}
 use Rattle.sheet_reader.proofs.Adding.{line_is_added}
 use Rattle.sheet_reader.proofs.Lines.{line_read_is_writing}
-use Rattle.sheet_reader.proofs.Flags.{Tells, tells_none, tells_push}
+use Rattle.sheet_reader.proofs.Flags.{Tells, tells_push}
 
 all_given_push : (sheet : LevelSheet) (ls : List SheetLine) (l : SheetLine) → all_given sheet (ls ++ l ∷ []) ≡ given (all_given sheet ls) l.name l.level
 all_given_push sheet [] l = refl
@@ -26,10 +26,6 @@ pub record ReadSoFar (L : Levels) (text : List ℕ) (left : Lines) (flags : List
   pub flagged : Tells flags lines
   pub given : sheet ≡ sheet_of L.lowest lines
   pub same : reading L text ≡ read_on (two_steps parse (add L)) lines left
-
-pub none_read : (L : Levels) (text : List ℕ) (left : Lines) (sheet : LevelSheet) → Begun text (Ok left) → sheet ≡ uniform L.lowest → ReadSoFar L text left (replicate 48 false) sheet
-none_read L text left sheet b e =
-    record { lines = []; flagged = tells_none; given = e; same = begun_is_short text left (lines_in L text) _ b ∙ first_is_read (two_steps parse (add L)) [] left text b }
 
 module _ {L : Levels} {text : List ℕ} {left : Lines} {flags : List Bool} {sheet : LevelSheet} (s : ReadSoFar L text left flags sheet) where
   -- the next line

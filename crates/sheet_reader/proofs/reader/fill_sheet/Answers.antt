@@ -1,12 +1,12 @@
-use Rattle.std.proofs.Common.{sym, ap, ◌∙◌, arith, rules}
+use Rattle.std.proofs.Common.{[], sym, ap, ◌∙◌, arith, rules}
 use Rattle.sheet.specs.Sheets.{uniform}
 use Rattle.text.proofs.Steps.{given}
-use Rattle.sheet_reader.proofs.Filling.{none_read, one_more}
+use Rattle.sheet_reader.proofs.Filling.{one_more}
+use Rattle.sheet_reader.proofs.Flags.{tells_none}
 use Rattle.sheet_reader.proofs.reader.fill_sheet.Goals as goal
 
 pub loop-line-init : goal.loop-line-init
-loop-line-init g c =
-    none_read (g.S.Scheme.levels c.args.scheme.now) c.args.text.now c.into_iter-line-iterator.result _ (search rules) (c.uniform.ensures ∙ ap uniform c.lowest-lowest.ensures)
+loop-line-init g c = record { lines = []; flagged = tells_none; given = c.uniform.ensures ∙ ap uniform c.lowest-lowest.ensures; same = search rules }
 
 pub loop-line-preserved : goal.loop-line-preserved
 loop-line-preserved g c =
