@@ -57,7 +57,11 @@ impl Nesting {
 
     // The rows that are open behind one more row, of a kind. They are taken out of here, so a refused row leaves none open.
     #[tactic(auto, using(crate::proofs::Stacks::kept, crate::proofs::Stacks::opened, crate::proofs::Stacks::turned))]
-    pub(crate) fn nest(&mut self, rows: &mut [Row], kind: Kind) -> Result<ArrayVec<u8, 9>, Misplaced>
+    pub(crate) fn nest(
+        &mut self,
+        rows: &mut [Row],
+        kind: Kind,
+    ) -> Result<ArrayVec<u8, 9>, Misplaced>
         requires { length rows.old ≡ self.old.count }
         ensures value { Nests (nested rows.old self.old.stack self.old.count kind) result rows.new }
         ensures among { IfOk result (λ o. Among (self.old.count + 1) (reverse o.items)) }
