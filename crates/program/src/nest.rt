@@ -11,7 +11,7 @@ use std::mem;
 
 // A row of a kind that may not come where it does.
 #[derive(Clone, Copy, PartialEq, Eq, Debug)]
-pub struct Misplaced;
+pub(crate) struct Misplaced;
 
 // How many rows there are, and which of them are open: a handler and at most eight blocks in it.
 #[derive(Drop)]
@@ -56,7 +56,6 @@ impl Nesting {
     }
 
     // The rows that are open behind one more row, of a kind. They are taken out of here, so a refused row leaves none open.
-    #[tactic(auto, using(crate::proofs::Stacks::kept, crate::proofs::Stacks::opened, crate::proofs::Stacks::turned))]
     pub(crate) fn nest(
         &mut self,
         rows: &mut [Row],
