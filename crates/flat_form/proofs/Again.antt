@@ -3,6 +3,7 @@ use Rattle.std.proofs.Common.{◌≡◌, ℕ, zero, suc, ◌+◌, ◌<◌, ◌�
 use Rattle.std.proofs.lemmas.Bool.{eq-eqb, ne_eqb, eqb-true, leb-true}
 use Rattle.std.proofs.lemmas.List.{drop_more, drop_all, length-take-le}
 use Rattle.fault.specs.declared.Fault.{Fault}
+use Rattle.program.specs.declared.rows.Kind.{Kind}
 use Rattle.program.specs.declared.rows.Row.{Row}
 use Rattle.program.specs.declared.rows.Term.{Term}
 use Rattle.program.specs.Building.{Tables, tables, start, build, line_from, blank_row}
@@ -56,8 +57,12 @@ take_on xs zero m = ap (λ k. take k xs) (let z : m ≡ 0 + m = omega arith in z
 take_on [] (suc n) m = nothing m [] refl ∙ sym (nothing (suc n + m) [] refl)
 take_on (x ∷ xs) (suc n) m = ap (λ l. x ∷ l) (take_on xs n m) ∙ ap (λ k. take k (x ∷ xs)) (let z : suc (n + m) ≡ suc n + m = omega arith in z)
 
-abbrev bare : Row → Row
-bare r = record { kind = r.kind; first = r.first; count = r.count; partner = 0 }
+-- a row whose partner is not known yet
+abbrev pub made : Kind → ℕ → ℕ → Row
+made k f c = record { kind = k; first = f; count = c; partner = 0 }
+
+abbrev pub plain : Row → Row
+plain r = made r.kind r.first r.count
 
 module _ {rows : List Row} {terms : List Term} {own : List Row} {nesting : Open} {used j : ℕ} (s : RebuiltSoFar rows terms own nesting used j) where
   abbrev now_is : Tables
@@ -85,13 +90,13 @@ module _ {rows : List Row} {terms : List Term} {own : List Row} {nesting : Open}
       part : length (line_from terms (get_or rows j blank_row)).1 ≡ (get_or rows j blank_row).count
       part = let a = (fitted_says terms used (get_or rows j blank_row) e).1 in length-take-le (get_or rows j blank_row).count (drop (get_or rows j blank_row).first terms) (simp length-drop (omega arith))
 
-      adds : (r : Result (Unit {0}) Fault) (own' : List Row) (nesting' : Open) → Builds own nesting (j + 1) (bare (get_or rows j blank_row)) r own' nesting' → Adds (build now_is (j + 1) (line_from terms (get_or rows j blank_row))) r (take (nesting.count + 1) own') nesting'.stack
+      adds : (r : Result (Unit {0}) Fault) (own' : List Row) (nesting' : Open) → Builds own nesting (j + 1) (plain (get_or rows j blank_row)) r own' nesting' → Adds (build now_is (j + 1) (line_from terms (get_or rows j blank_row))) r (take (nesting.count + 1) own') nesting'.stack
       adds r own' nesting' b = b (take used terms) (line_from terms (get_or rows j blank_row)).1 (much ∙ sym (fitted_says terms used (get_or rows j blank_row) e).0) part
 
-      pub refused : (g : Fault) (own' : List Row) (nesting' : Open) → Builds own nesting (j + 1) (bare (get_or rows j blank_row)) (Err g) own' nesting' → None ≡ used_by rows terms
+      pub refused : (g : Fault) (own' : List Row) (nesting' : Open) → Builds own nesting (j + 1) (plain (get_or rows j blank_row)) (Err g) own' nesting' → None ≡ used_by rows terms
       refused g own' nesting' b = sym (ap (ends_in rows) (goes ∙ ap (λ y. after y go_on) (added_err _ g _ _ (adds (Err g) own' nesting' b))))
 
-      pub one_more : (own' : List Row) (nesting' : Open) → length own' ≡ length own → nesting'.count ≡ nesting.count + 1 → Builds own nesting (j + 1) (bare (get_or rows j blank_row)) (Ok tt) own' nesting'
+      pub one_more : (own' : List Row) (nesting' : Open) → length own' ≡ length own → nesting'.count ≡ nesting.count + 1 → Builds own nesting (j + 1) (plain (get_or rows j blank_row)) (Ok tt) own' nesting'
           → RebuiltSoFar rows terms own' nesting' (used + (get_or rows j blank_row).count) (j + 1)
       one_more own' nesting' le counted b =
           let says = fitted_says terms used (get_or rows j blank_row) e in

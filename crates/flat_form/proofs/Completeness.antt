@@ -21,7 +21,8 @@ use Rattle.program.proofs.Runs.{runs_built}
 use Rattle.program.proofs.Tables.{built_kept, lines_kept, terms_after}
 use Rattle.flat_form.specs.Fitting.{fits_term, makes, expressed, fits_kind}
 use Rattle.flat_form.specs.Rebuilding.{fitted, after, again, same_partners, ends_in, used_by}
-use Rattle.flat_form.proofs.Soundness.{made, plain, plain_built, head_is, tail_is}
+use Rattle.flat_form.proofs.Again.{made, plain}
+use Rattle.flat_form.proofs.Soundness.{plain_built, head_is, tail_is}
 
 fit_forth : (t : Term) → FitTerm t → fits_term t ≡ true
 fit_forth Input h = refl

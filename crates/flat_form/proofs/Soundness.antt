@@ -16,12 +16,12 @@ use Rattle.program.specs.Lines.{Line, FitKind, FitLine}
 use Rattle.program.specs.Building.{Tables, start, build, line_from, lines_from, linked_at}
 use Rattle.program.specs.Trees.{program_of}
 use Rattle.program.specs.Writing.{flat_rows, flat_terms, Within}
-use Rattle.program.proofs.Cases.{split, both_true}
+use Rattle.program.proofs.Cases.{split, both_true, same_some}
 use Rattle.program.proofs.Programs.{built_is_flat}
 use Rattle.program.proofs.Tables.{build_ok, nested_same, Same, terms_after}
 use Rattle.flat_form.specs.Fitting.{fits_term, makes, expressed, fits_kind}
 use Rattle.flat_form.specs.Rebuilding.{fitted, after, again, same_partners, ends_in, used_by}
-use Rattle.flat_form.proofs.Again.{fitted_says, take_on}
+use Rattle.flat_form.proofs.Again.{fitted_says, take_on, made, plain}
 
 fit_back : (t : Term) → fits_term t ≡ true → FitTerm t
 fit_back Input e = tt
@@ -61,16 +61,13 @@ after_some : (x : Result Tables Fault) (k : Tables → Option Tables) (t : Table
 after_some (Ok u) k t e = (u, refl, e)
 after_some (Err f) k t e = cc
 
-same_tables : (s t : Tables) → Some s ≡ Some t → s ≡ t
-same_tables s t e = cc
-
 again_step : (terms : List Term) (s : Tables) (n : ℕ) (r : Row) (rs : List Row) (t : Tables) → again terms s n (r ∷ rs) ≡ Some t → (fitted terms (length s.terms) r ≡ true) × ((u : Tables) × (build s (n + 1) (line_from terms r) ≡ Ok u) × (again terms u (n + 1) rs ≡ Some t))
 again_step terms s n r rs t e =
     split (fitted terms (length s.terms) r) (after (build s (n + 1) (line_from terms r)) (λ u. again terms u (n + 1) rs)) None (Some t) e
     (λ q h. (q, after_some (build s (n + 1) (line_from terms r)) (λ u. again terms u (n + 1) rs) t h)) (λ _ h. cc)
 
 built : (terms : List Term) (s : Tables) (n : ℕ) (rs : List Row) (t : Tables) → again terms s n rs ≡ Some t → AllByRecursion FitLine (lines_from rs terms) × Built build s n (lines_from rs terms) t
-built terms s n [] t e = (tt, same_tables s t e)
+built terms s n [] t e = (tt, same_some e)
 built terms s n (r ∷ rs) t e =
     let a = again_step terms s n r rs t e in
     let f = fitted_says terms (length s.terms) r a.0 in
@@ -78,7 +75,7 @@ built terms s n (r ∷ rs) t e =
     ((row_back r.kind _ f.2, b.0), (a.1.0, a.1.1, b.1))
 
 first_terms : (terms : List Term) (s : Tables) (n : ℕ) (rs : List Row) (t : Tables) → length s.terms ≤ length terms → s.terms ≡ take (length s.terms) terms → again terms s n rs ≡ Some t → t.terms ≡ take (length t.terms) terms
-first_terms terms s n [] t le q e = subst (λ (x : Tables). x.terms ≡ take (length x.terms) terms) (same_tables s t e) q
+first_terms terms s n [] t le q e = subst (λ (x : Tables). x.terms ≡ take (length x.terms) terms) (same_some e) q
 first_terms terms s n (r ∷ rs) t le q e =
     let a = again_step terms s n r rs t e in
     let f = fitted_says terms (length s.terms) r a.0 in
@@ -95,7 +92,7 @@ first_terms terms s n (r ∷ rs) t le q e =
     first_terms terms u (n + 1) rs t (omega arith) (w ∙ ap (λ k. take k terms) (sym long)) a.1.2
 
 few_terms : (terms : List Term) (s : Tables) (n : ℕ) (rs : List Row) (t : Tables) → length s.terms ≤ length terms → again terms s n rs ≡ Some t → length t.terms ≤ length terms
-few_terms terms s n [] t le e = subst (λ (x : Tables). length x.terms ≤ length terms) (same_tables s t e) le
+few_terms terms s n [] t le e = subst (λ (x : Tables). length x.terms ≤ length terms) (same_some e) le
 few_terms terms s n (r ∷ rs) t le e =
     let a = again_step terms s n r rs t e in
     let f = fitted_says terms (length s.terms) r a.0 in
@@ -105,12 +102,6 @@ few_terms terms s n (r ∷ rs) t le e =
     let part = length-take-le r.count (drop r.first terms) (simp length-drop (omega arith)) in
     let long = ap length (terms_after s (n + 1) (line_from terms r) u a.1.1) ∙ length-append s.terms (take r.count (drop r.first terms)) in
     few_terms terms u (n + 1) rs t (omega arith) a.1.2
-
-abbrev pub made : Kind → ℕ → ℕ → Row
-made k f c = record { kind = k; first = f; count = c; partner = 0 }
-
-abbrev pub plain : Row → Row
-plain r = made r.kind r.first r.count
 
 plain_joined : (rows : List Row) (o j : ℕ) → map plain (linked_at rows o j) ≡ map plain rows
 plain_joined [] o j = refl
@@ -128,7 +119,7 @@ plain_built s n l u e =
     ∙ ap (λ x. x ++ made l.0 (length s.terms) (length l.1) ∷ []) (plain_same s.rows b.0.0 (nested_same s.rows s.stack (length s.rows) l.0 b.0 b.1))
 
 plain_again : (terms : List Term) (s : Tables) (n : ℕ) (rs : List Row) (t : Tables) → again terms s n rs ≡ Some t → map plain t.rows ≡ map plain s.rows ++ map plain rs
-plain_again terms s n [] t e = ap (λ (x : Tables). map plain x.rows) (sym (same_tables s t e)) ∙ sym (append-nil (map plain s.rows))
+plain_again terms s n [] t e = ap (λ (x : Tables). map plain x.rows) (sym (same_some e)) ∙ sym (append-nil (map plain s.rows))
 plain_again terms s n (r ∷ rs) t e =
     let a = again_step terms s n r rs t e in
     let f = fitted_says terms (length s.terms) r a.0 in
@@ -161,14 +152,11 @@ rows_are (r ∷ rs) (q ∷ qs) e p =
     ap (λ x. x ∷ rs) (one_row r q (head_is (plain r) (plain q) (map plain rs) (map plain qs) e) (eqb-true _ _ a.0))
     ∙ ap (λ l. q ∷ l) (rows_are rs qs (tail_is (plain r) (plain q) (map plain rs) (map plain qs) e) a.1)
 
-some_num : (a b : ℕ) → Some a ≡ Some b → a ≡ b
-some_num a b e = cc
-
 ends_back : (rows : List Row) (o : Option Tables) (m : ℕ) → ends_in rows o ≡ Some m → (t : Tables) × (o ≡ Some t) × (t.stack ≡ []) × (same_partners rows t.rows ≡ true) × (length t.terms ≡ m)
 ends_back rows None m e = cc
 ends_back rows (Some t) m e =
     split (eqb (length t.stack) 0) (cond (same_partners rows t.rows) (Some (length t.terms)) None) None (Some m) e
-    (λ q h. split (same_partners rows t.rows) (Some (length t.terms)) None (Some m) h (λ p g. (t, refl, nil_from_length t.stack (eqb-true _ _ q), p, some_num _ m g)) (λ _ g. cc))
+    (λ q h. split (same_partners rows t.rows) (Some (length t.terms)) None (Some m) h (λ p g. (t, refl, nil_from_length t.stack (eqb-true _ _ q), p, same_some g)) (λ _ g. cc))
     (λ _ h. cc)
 
 pub taken_is_flat : (rows : List Row) (terms : List Term) (m : ℕ) → used_by rows terms ≡ Some m → (p : Tree) × Within p × (rows ≡ flat_rows p) × (take m terms ≡ flat_terms p) × (m ≤ length terms)

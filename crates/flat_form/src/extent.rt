@@ -16,6 +16,7 @@ fn extent_of(rows: &[Row]) -> usize
     ensures value { result ≡ extent rows.now }
     ensures within { result ≤ length rows.now }
 {
+    // Not `map_or`: the proof that the rows behind the last are blank does not close there.
     match rows.iter().rposition(is_filled) {
         Some(last) => last + 1,
         None => 0,

@@ -13,7 +13,7 @@ fn fits_term(term: Term) -> bool
     }
 }
 
-// The terms are one expression, in prefix order.
+// The terms are one expression, in prefix order. It counts the lacking parts itself, as the reader of a line does: a line's fields may end, terms do not.
 #[tactic(auto, using(crate::proofs::Expressed::stops))]
 fn is_expression(terms: &[Term]) -> bool
     ensures { result ≡ expressed terms.now }

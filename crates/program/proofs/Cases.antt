@@ -1,5 +1,5 @@
 -- What a value says of the test before it. Assumes nothing.
-use Rattle.std.proofs.Common.{◌≡◌, Bool, true, false, cond, refl}
+use Rattle.std.proofs.Common.{◌≡◌, Bool, true, false, cond, Some, refl}
 
 pub split : {A : Type 0} {P : Type 0} (b : Bool) (x y v : A) → cond b x y ≡ v → (b ≡ true → x ≡ v → P) → (b ≡ false → y ≡ v → P) → P
 split true x y v e f g = f refl e
@@ -14,3 +14,7 @@ both_true false b e = cc
 pub neither : (b : Bool) → cond b false false ≡ false
 neither true = refl
 neither false = refl
+
+-- what an option holds
+pub same_some : {X : Type 0} {x y : X} → Some x ≡ Some y → x ≡ y
+same_some e = cc

@@ -16,7 +16,7 @@ use Rattle.language.specs.declared.Operator.TheVariants.{Plus, Minus, Times, Equ
 use Rattle.program.specs.declared.rows.Term.{Term}
 use Rattle.program.specs.declared.rows.Term.TheVariants.{Input, Constant, Variable, Operator}
 use Rattle.program.specs.Terms.{operator_byte, term_in, term_bytes, FitTerm, arity_of, expression_from, Whole, Expression}
-use Rattle.program.proofs.Cases.{split}
+use Rattle.program.proofs.Cases.{split, same_some}
 use Rattle.program.proofs.Collecting.{turn, done}
 
 abbrev Told : List ℕ → Term → Type 0
@@ -37,9 +37,6 @@ variable_back b bs (Some n) t e s h =
     let a = number_read_is_decimal 0 15 bs n (omega arith) s in
     told_some (b ∷ bs) (Variable n) t h (ap (λ x. x ∷ bs) e ∙ ap (λ x. 118 ∷ x) a.0, omega (arith, a.2))
 
-some_op : (p o : language.Operator) → Some p ≡ Some o → p ≡ o
-some_op p o e = cc
-
 one : (bs : List ℕ) → eqb (suc (length bs)) 1 ≡ true → bs ≡ []
 one bs e = nil_from_length bs (let l = eqb-true (suc (length bs)) 1 e in omega arith)
 
@@ -48,12 +45,12 @@ some_lacking m h = omega arith
 
 op_back : (c : ℕ) (o : language.Operator) → operator_of c ≡ Some o → c ≡ operator_byte o
 op_back c o e =
-    split (eqb c 43) _ _ (Some o) e (λ t h. eqb-true c 43 t ∙ ap operator_byte (some_op Plus o h)) (λ _ e.
-    split (eqb c 45) _ _ (Some o) e (λ t h. eqb-true c 45 t ∙ ap operator_byte (some_op Minus o h)) (λ _ e.
-    split (eqb c 42) _ _ (Some o) e (λ t h. eqb-true c 42 t ∙ ap operator_byte (some_op Times o h)) (λ _ e.
-    split (eqb c 61) _ _ (Some o) e (λ t h. eqb-true c 61 t ∙ ap operator_byte (some_op Equal o h)) (λ _ e.
-    split (eqb c 60) _ _ (Some o) e (λ t h. eqb-true c 60 t ∙ ap operator_byte (some_op Less o h)) (λ _ e.
-    split (eqb c 114) _ _ (Some o) e (λ t h. eqb-true c 114 t ∙ ap operator_byte (some_op Round o h)) (λ _ e.
+    split (eqb c 43) _ _ (Some o) e (λ t h. eqb-true c 43 t ∙ ap operator_byte (same_some h)) (λ _ e.
+    split (eqb c 45) _ _ (Some o) e (λ t h. eqb-true c 45 t ∙ ap operator_byte (same_some h)) (λ _ e.
+    split (eqb c 42) _ _ (Some o) e (λ t h. eqb-true c 42 t ∙ ap operator_byte (same_some h)) (λ _ e.
+    split (eqb c 61) _ _ (Some o) e (λ t h. eqb-true c 61 t ∙ ap operator_byte (same_some h)) (λ _ e.
+    split (eqb c 60) _ _ (Some o) e (λ t h. eqb-true c 60 t ∙ ap operator_byte (same_some h)) (λ _ e.
+    split (eqb c 114) _ _ (Some o) e (λ t h. eqb-true c 114 t ∙ ap operator_byte (same_some h)) (λ _ e.
     cc))))))
 
 operator_back : (b : ℕ) (bs : List ℕ) (o : Option language.Operator) (t : Term) → bs ≡ [] → operator_of b ≡ o → option_map Operator o ≡ Some t → Told (b ∷ bs) t

@@ -1,5 +1,5 @@
 -- The loop that reads the lines of a text into lent tables. Assumes nothing.
-use Rattle.std.proofs.Common.{◌≡◌, ℕ, ◌+◌, ◌-◌, ◌<◌, ◌≤◌, List, length, drop, replicate, Ok, Err, Result, sym, ap, ◌∙◌, subst, arith}
+use Rattle.std.proofs.Common.{◌≡◌, ℕ, ◌+◌, ◌-◌, ◌≤◌, List, length, drop, replicate, Ok, Err, Result, sym, ap, ◌∙◌, subst, arith}
 use Rattle.std.proofs.lemmas.List.{drop-drop, drop-replicate}
 use Rattle.fault.specs.declared.Fault.{Fault}
 use Rattle.fault.specs.Faults.{then}
@@ -22,7 +22,6 @@ to_end r = then r (λ s. ended s s.stack)
 
 -- what is read is held, blanks follow it, and what is left gives the result
 pub record ReadSoFar (text : List ℕ) (left : Lines) (p : Progress) (rows : List Row) (terms : List Term) : Type 0 where
-  pub few : p.nesting.count ≤ 128
   pub room : 128 ≤ length rows
   pub rest : drop p.nesting.count rows ≡ replicate (length rows - p.nesting.count) blank_row
   pub few_terms : p.used ≤ 512
@@ -57,13 +56,12 @@ module _ {text : List ℕ} {left : Lines} {p : Progress} {rows : List Row} {term
     misput {f} held h = by_line (Err f) (stopped _ f held h)
 
     pub one_more : (p' : Progress) (rows' : List Row) (terms' : List Term) → GoesOn (two_steps parse build (so_far p rows terms) l.number l.bytes.now) (Ok tt) (so_far p' rows' terms')
-        → length rows' ≡ length rows → length terms' ≡ length terms → p.nesting.count < 128 → p'.nesting.count ≡ p.nesting.count + 1 → p.used ≤ p'.used → p'.used ≤ 512
+        → length rows' ≡ length rows → length terms' ≡ length terms → p'.nesting.count ≡ p.nesting.count + 1 → p.used ≤ p'.used → p'.used ≤ 512
         → drop (p.nesting.count + 1) rows' ≡ drop (p.nesting.count + 1) rows → drop p'.used terms' ≡ drop p'.used terms → ReadSoFar text next p' rows' terms'
-    one_more p' rows' terms' goes long long_terms lt counted grows le kept kept_terms =
+    one_more p' rows' terms' goes long long_terms counted grows le kept kept_terms =
         let a = s.room in
         let b = s.room_terms in
         record {
-          few = omega arith;
           room = omega arith;
           rest = less blank_row p.nesting.count p'.nesting.count rows rows' (omega arith) long s.rest (subst (λ (n : ℕ). drop n rows' ≡ drop n rows) (sym counted) kept);
           few_terms = le;

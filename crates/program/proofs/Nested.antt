@@ -9,7 +9,7 @@ use Rattle.program.specs.declared.rows.Row.{Row}
 use Rattle.program.specs.Lines.{Line}
 use Rattle.program.specs.Building.{blank_row, Tables, linked_at, is_if, inside, begins, opens, turns, closes, nested}
 use Rattle.program.specs.Writing.{row}
-use Rattle.program.proofs.Cases.{split}
+use Rattle.program.proofs.Cases.{split, same_some}
 use Rattle.program.proofs.Ordering.{Moves, Ordered}
 use Rattle.program.proofs.Runs.{Runs}
 use Rattle.program.proofs.Tables.{Pair, build_ok}
@@ -73,16 +73,13 @@ module _ (rows : List Row) (r : Row) (os : List ℕ) (u : Under (length rows) os
 abbrev Goes : Kind → List Row → List ℕ → Row → Pair → Type 0
 Goes k rows os r p = Moves k (marks rows os) (marks (p.0 ++ r ∷ []) p.1) × Under (length (p.0 ++ r ∷ [])) p.1
 
-some_is : (x y : Pair) → Some x ≡ Some y → x ≡ y
-some_is x y e = cc
-
 goes : (k : Kind) (rows : List Row) (os : List ℕ) (r : Row) (x p : Pair) → Some x ≡ Some p → Goes k rows os r x → Goes k rows os r p
-goes k rows os r x p e h = subst (λ (y : Pair). Goes k rows os r y) (some_is x p e) h
+goes k rows os r x p e h = subst (λ (y : Pair). Goes k rows os r y) (same_some e) h
 
 plain_goes : (rows : List Row) (os : List ℕ) (r : Row) (p : Pair) → inside rows os ≡ Some p → Under (length rows) os → (0 < length (marks rows os)) × (marks (p.0 ++ r ∷ []) p.1 ≡ marks rows os) × Under (length (p.0 ++ r ∷ [])) p.1
 plain_goes rows [] r p e u = cc
 plain_goes rows (o ∷ os) r p e u =
-    subst (λ (y : Pair). (0 < length (marks rows (o ∷ os))) × (marks (y.0 ++ r ∷ []) y.1 ≡ marks rows (o ∷ os)) × Under (length (y.0 ++ r ∷ [])) y.1) (some_is (rows, o ∷ os) p e)
+    subst (λ (y : Pair). (0 < length (marks rows (o ∷ os))) × (marks (y.0 ++ r ∷ []) y.1 ≡ marks rows (o ∷ os)) × Under (length (y.0 ++ r ∷ [])) y.1) (same_some e)
     (omega arith, behind rows r (o ∷ os) u, under rows r (o ∷ os) u)
 
 open_goes : (rows : List Row) (os : List ℕ) (r : Row) (b : Bool) (p : Pair) → is_if r.kind ≡ b → opens rows os (length rows) ≡ Some p → Under (length rows) os → (0 < length (marks rows os)) × (length (marks rows os) ≤ 8) × (marks (p.0 ++ r ∷ []) p.1 ≡ b ∷ marks rows os) × Under (length (p.0 ++ r ∷ [])) p.1
@@ -94,7 +91,7 @@ open_goes rows (o ∷ os) r b p i e u =
     let l = leb-false 9 (length (o ∷ os)) few in
     let n = length_marks rows (o ∷ os) in
     let m = length_push rows r in
-    subst (λ (y : Pair). (0 < length (marks rows (o ∷ os))) × (length (marks rows (o ∷ os)) ≤ 8) × (marks (y.0 ++ r ∷ []) y.1 ≡ b ∷ marks rows (o ∷ os)) × Under (length (y.0 ++ r ∷ [])) y.1) (some_is (rows, length rows ∷ o ∷ os) p h) (
+    subst (λ (y : Pair). (0 < length (marks rows (o ∷ os))) × (length (marks rows (o ∷ os)) ≤ 8) × (marks (y.0 ++ r ∷ []) y.1 ≡ b ∷ marks rows (o ∷ os)) × Under (length (y.0 ++ r ∷ [])) y.1) (same_some h) (
       omega arith,
       omega arith,
       ap (λ x. x ∷ marks (rows ++ r ∷ []) (o ∷ os)) (newest rows r (o ∷ os) u ∙ i) ∙ ap (λ x. b ∷ x) (behind rows r (o ∷ os) u),

@@ -120,7 +120,7 @@ text_tells_the_program t p q v w =
     ∙ flat_form_tells_the_program q w.program_keeps_its_limits
 
 no_ok : (f : Fault) (s : Tables) → ◌≡◌ {A = Result Tables Fault} (Err f) (Ok s) → ⊥
-no_ok f s e = let z : ◌≡◌ {A = ℕ} 0 1 = cc in omega arith
+no_ok f s e = cc
 
 length_padded : {X : Type 0} (b : X) (n : ℕ) (xs : List X) → length xs ≤ n → length (padded b n xs) ≡ n
 length_padded b n xs le = let a = length-append xs (replicate (n - length xs) b) in let r = length-replicate (n - length xs) b in omega arith

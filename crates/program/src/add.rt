@@ -1,5 +1,5 @@
 // One more row behind those before it.
-ghost use Rattle.std.specs.Prelude.{◌≡◌, ◌+◌, ◌<◌, ◌≤◌, length, take, drop, OnOk};
+ghost use Rattle.std.specs.Prelude.{◌≡◌, ◌+◌, ◌<◌, ◌≤◌, length, take, drop, [], OnOk, OnErr};
 ghost use Rattle.program.specs.Building.{has_handler, is_twice};
 ghost use Rattle.program.specs.Nesting.{Builds};
 
@@ -33,26 +33,30 @@ fn is_second(kind: Kind, rows: &[Row]) -> bool
 impl Nesting {
     // One more row, whose partner is not known yet, from the given line.
     pub fn add(&mut self, rows: &mut [Row], row: Row, line: u16) -> Result<(), Fault>
-        requires few { self.old.count ≤ 128 }
+        // At least 128: rows are lent in any length from there on.
         requires room { 128 ≤ length rows.old }
         requires bare { row.partner ≡ 0 }
         ensures value { Builds rows.old self.old line row result rows.new self.new }
-        ensures count { self.new.count ≡ self.old.count + 1 }
+        ensures count { OnOk result (self.new.count ≡ self.old.count + 1) }
+        ensures refused { OnErr result (self.new ≡ record { count = self.old.count; stack = [] }) }
         ensures room { OnOk result ((self.old.count < 128) × (row.first + row.count ≤ 512)) }
         ensures rest { drop (self.old.count + 1) rows.new ≡ drop (self.old.count + 1) rows.old }
     {
-        let j = self.count();
-        let second = is_second(row.kind, &rows[..j]);
-        self.nest(&mut rows[..j], row.kind)
-            .ok_or(placed(Reason::Nest, line, 1))?;
+        let at = self.count;
+        let second = is_second(row.kind, &rows[..at]);
+        let open = self
+            .nest(&mut rows[..at], row.kind)
+            .map_err(|_| placed(Reason::Nest, line, 1))?;
         if second {
             return Err(placed(Reason::Twice, line, 2));
         }
         let end = row.first as usize + row.count as usize;
-        if j >= ROW_LIMIT || end > TERM_LIMIT {
+        if at >= ROW_LIMIT || end > TERM_LIMIT {
             return Err(placed(Reason::Full, line, 1));
         }
-        rows[j] = row;
+        rows[at] = row;
+        self.open = open;
+        self.count += 1;
         Ok(())
     }
 }

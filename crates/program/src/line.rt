@@ -6,8 +6,7 @@ ghost use Rattle.text.specs.Reading.{left_of, line_of};
 ghost use Rattle.program.specs.Lines.{whole_from, held_terms, aimed_from, held_aim, alone, line_in, held_line};
 
 use crate::rows::Kind;
-use crate::terms;
-use crate::terms::Expression;
+use crate::terms::{Expression, expression};
 use fault::{Fault, Reason};
 use text::{Fields, Line};
 
@@ -16,7 +15,7 @@ fn whole(fields: &mut Fields<'_>, place: u8) -> Result<Expression, Fault>
     requires { place ≤ 100 }
     ensures { result ≡ held_terms (whole_from (line_of fields.old) place (left_of fields.old)) }
 {
-    let terms = terms::expression(fields, place)?;
+    let terms = expression(fields, place)?;
     fields.end(place + terms.len() as u8)?;
     Ok(terms)
 }

@@ -1,28 +1,34 @@
 // Which rows are open, and the partners that are written where one closes.
-ghost use Rattle.std.specs.Prelude.{◌≡◌, ◌+◌, ◌≤◌, ◌==◌, not, [], length};
+ghost use Rattle.std.specs.Prelude.{◌≡◌, ◌+◌, ◌≤◌, ◌==◌, not, [], reverse, length, IfOk};
 ghost use Rattle.program.specs.Building.{nested};
 ghost use Rattle.program.specs.Nesting.{Nests};
+ghost use Rattle.program.specs.Open.{Among};
 
 use crate::rows::{Kind, Row};
 use arrayvec::ArrayVec;
 use std::marker::Model;
+use std::mem;
+
+// A row of a kind that may not come where it does.
+#[derive(Clone, Copy, PartialEq, Eq, Debug)]
+pub(crate) struct Misplaced;
 
 // How many rows there are, and which of them are open: a handler and at most eight blocks in it.
 #[derive(Drop)]
 pub struct Nesting {
-    count: usize,
-    open: ArrayVec<u8, 9>,
+    pub(crate) count: usize,
+    pub(crate) open: ArrayVec<u8, 9>,
 }
 
 impl Model for Nesting {
-    ghost use Rattle.std.specs.Prelude.{reverse};
+    ghost use Rattle.std.specs.Prelude.{◌≤◌, reverse};
     ghost use Rattle.program.specs.Open.{Open, Among};
 
     ghost Value = { Open };
 
     ghost view = { λ n. record { count = n.count; stack = reverse n.«open».items } };
 
-    ghost invariant = { λ n. Among n.count (reverse n.«open».items) };
+    ghost invariant = { λ n. (n.count ≤ 128) × Among n.count (reverse n.«open».items) };
 }
 
 impl Nesting {
@@ -36,7 +42,8 @@ impl Nesting {
     }
 
     pub(crate) fn count(&self) -> usize
-        ensures { result ≡ self.now.count }
+        ensures value { result ≡ self.now.count }
+        ensures few { result ≤ 128 }
     {
         self.count
     }
@@ -48,31 +55,35 @@ impl Nesting {
         !self.open.is_empty()
     }
 
-    // One more row, of a kind, behind these; none where it is misplaced.
-    #[tactic(auto, using(crate::proofs::Stacks::kept, crate::proofs::Stacks::opened, crate::proofs::Stacks::turned))]
-    pub(crate) fn nest(&mut self, rows: &mut [Row], kind: Kind) -> Option<()>
-        requires few { self.old.count ≤ 128 }
-        requires all { length rows.old ≡ self.old.count }
-        ensures value { Nests (nested rows.old self.old.stack self.old.count kind) result rows.new self.new.stack }
-        ensures count { self.new.count ≡ self.old.count + 1 }
+    // The rows that are open behind one more row, of a kind. They are taken out of here, so a refused row leaves none open.
+    pub(crate) fn nest(
+        &mut self,
+        rows: &mut [Row],
+        kind: Kind,
+    ) -> Result<ArrayVec<u8, 9>, Misplaced>
+        requires { length rows.old ≡ self.old.count }
+        ensures value { Nests (nested rows.old self.old.stack self.old.count kind) result rows.new }
+        ensures among { IfOk result (λ o. Among (self.old.count + 1) (reverse o.items)) }
+        ensures taken { self.new ≡ record { count = self.old.count; stack = [] } }
     {
-        let j = self.count as u8;
-        self.count += 1;
+        let at = self.count as u8;
+        let mut open = mem::replace(&mut self.open, ArrayVec::new());
         match kind {
-            Kind::Skip | Kind::Assign(_) | Kind::Output(_) if self.is_open() => {}
-            Kind::Handler(_) if !self.is_open() => self.open.push(j),
-            Kind::If | Kind::While if self.is_open() && !self.open.is_full() => self.open.push(j),
+            Kind::Skip | Kind::Assign(_) | Kind::Output(_) if !open.is_empty() => {}
+            Kind::Handler(_) if open.is_empty() => open.push(at),
+            Kind::If | Kind::While if !open.is_empty() && !open.is_full() => open.push(at),
             Kind::Else => {
-                let top = self.open.pop()? as usize;
+                let top = open.pop().ok_or(Misplaced)? as usize;
                 if rows[top].kind != Kind::If {
-                    return None;
+                    return Err(Misplaced);
                 }
-                rows[top].partner = j;
-                self.open.push(j);
+                rows[top].partner = at;
+                open.push(at);
             }
-            Kind::Close => rows[self.open.pop()? as usize].partner = j,
-            _ => return None,
+            Kind::Close => rows[open.pop().ok_or(Misplaced)? as usize].partner = at,
+            // Also a row whose guard above failed.
+            _ => return Err(Misplaced),
         }
-        Some(())
+        Ok(open)
     }
 }

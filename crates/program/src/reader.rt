@@ -1,5 +1,5 @@
 // The reader of a site program: lines `H,channel`, `A,variable,expression`, `O,channel,expression`, `S`, `I,expression`, `W,expression`, `E` and `X`.
-ghost use Rattle.std.specs.Prelude.{◌≡◌, ◌+◌, ◌<◌, ◌≤◌, length, drop, replicate, OnOk};
+ghost use Rattle.std.specs.Prelude.{◌≡◌, ◌+◌, ◌≤◌, length, drop, replicate, OnOk};
 ghost use Rattle.text.specs.Building.{two_steps};
 ghost use Rattle.program.specs.Lines.{parse};
 ghost use Rattle.program.specs.Building.{blank_row, blank_term, build};
@@ -25,13 +25,14 @@ struct Progress {
 impl Progress {
     // One more line, into the next places.
     fn put(&mut self, line: Line<'_>, rows: &mut [Row], terms: &mut [Term]) -> Result<(), Fault>
-        requires few { (self.old.nesting.count ≤ 128) × (self.old.used ≤ 512) }
+        requires few { self.old.used ≤ 512 }
+        // At least so many: rows and terms are lent in any length from there on.
         requires room { (128 ≤ length rows.old) × (512 ≤ length terms.old) }
         ensures value { GoesOn (two_steps parse build (so_far self.old rows.old terms.old) line.entry.number line.entry.bytes.now) result (so_far self.new rows.new terms.new) }
         ensures count { OnOk result (self.new.nesting.count ≡ self.old.nesting.count + 1) }
         ensures rows { drop (self.old.nesting.count + 1) rows.new ≡ drop (self.old.nesting.count + 1) rows.old }
         ensures terms { drop self.new.used terms.new ≡ drop self.new.used terms.old }
-        ensures room { OnOk result ((self.old.nesting.count < 128) × (self.old.used ≤ self.new.used) × (self.new.used ≤ 512)) }
+        ensures room { OnOk result ((self.old.used ≤ self.new.used) × (self.new.used ≤ 512)) }
     {
         let (kind, expression) = read_line(line)?;
         let row = Row {
@@ -68,7 +69,7 @@ fn fill_tables(text: &[u8], rows: &mut [Row], terms: &mut [Term]) -> Result<usiz
     Ok(count)
 }
 
-// The program that a text is the writing of, as its flat form in at least 128 lent rows and 512 lent terms; the answer counts the rows.
+// The program that a text is the writing of, as its flat form in at least 128 lent rows and 512 lent terms; the answer counts the rows, since more rows may be lent than it has.
 pub fn read_program(text: &[u8], rows: &mut [Row], terms: &mut [Term]) -> Result<usize, Fault>
     ensures value { result ≡ answer text.now rows.old terms.old }
     ensures rows { rows.new ≡ rows_after text.now rows.old terms.old }

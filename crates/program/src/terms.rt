@@ -48,7 +48,7 @@ fn next_term(fields: &mut Fields<'_>) -> Option<Term>
     fields.take().and_then(term)
 }
 
-// One expression, of which the first field has a place.
+// One expression, of which the first field has a place. It counts the lacking parts itself, as the test of filled tables does: fields may end, terms do not.
 pub fn expression(fields: &mut Fields<'_>, place: u8) -> Result<Expression, Fault>
     requires { place ≤ 100 }
     ensures value { ExpressionRead (expression_from (line_of fields.old) place 1 [] (left_of fields.old)) result (left_of fields.new) }

@@ -12,4 +12,4 @@ returns-in_err-put c =
 pub loop-line-preserved : goal.loop-line-preserved
 loop-line-preserved c =
     let r = c.in_ok-put.ensures.room in
-    one_more c.loop-line.invariant (given c.in-Some.ensures.steps c.in_ok-line.was) c.put.new.self _ _ c.in_ok-put.ensures.value (search rules) (search rules) r.0 c.in_ok-put.ensures.count r.1 r.2 c.put.ensures.rows c.put.ensures.terms
+    one_more c.loop-line.invariant (given c.in-Some.ensures.steps c.in_ok-line.was) c.put.new.self _ _ c.in_ok-put.ensures.value (search rules) (search rules) c.in_ok-put.ensures.count r.0 r.1 c.put.ensures.rows c.put.ensures.terms
