@@ -9,7 +9,7 @@ use fault::Fault;
 use loader::Program;
 use program::{ROW_LIMIT, Row, TERM_LIMIT, Term, read_program};
 
-// The program that the text is read as, in the lent tables.
+// The program that the text is read as, in the lent tables. They go into the answer, so that no clause can say what a refusal leaves there.
 pub fn load_program<'a>(
     text: &[u8],
     rows: &'a mut [Row; ROW_LIMIT],
