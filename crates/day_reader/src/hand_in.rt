@@ -3,6 +3,8 @@ ghost use Rattle.std.specs.Prelude.{◌≡◌};
 ghost use Rattle.ticket.specs.Tickets.{decoded_in};
 ghost use Rattle.day_reader.specs.HandIns.{record_of, ticket_if_known};
 
+use ticket::Ticket;
+
 #[derive(Clone, Copy, PartialEq, Eq, Debug)]
 pub struct HandIn {
     pub channel: u8,
@@ -15,7 +17,12 @@ impl HandIn {
         ensures value { result ≡ record_of self.now }
         ensures decoded { decoded_in result ≡ ticket_if_known self.now }
     {
-        let [a, b, c, d] = self.value.to_be_bytes();
-        [self.channel, b'I', a, b, c, d, 0, 0]
+        let ticket = Ticket {
+            channel: self.channel,
+            value: self.value,
+        };
+        let mut record = ticket.encode();
+        record[1] = b'I';
+        record
     }
 }

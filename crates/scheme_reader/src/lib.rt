@@ -33,20 +33,14 @@ fn read_line(line: Line<'_>) -> Result<SchemeChoice, Fault>
 {
     let mut fields = Fields::new(line);
     let word = fields.take();
-    let no_such_size = |_: Fault| line.fault(Reason::Level, 2);
-    if word == Some(Field::Other(b"chain")) {
-        let size = read_size(&mut fields)?;
-        Chain::new(size)
-            .map(SchemeChoice::Chain)
-            .map_err(no_such_size)
+    let choice = if word == Some(Field::Other(b"chain")) {
+        Chain::new(read_size(&mut fields)?).map(SchemeChoice::Chain)
     } else if word == Some(Field::Other(b"parties")) {
-        let size = read_size(&mut fields)?;
-        Parties::new(size)
-            .map(SchemeChoice::Parties)
-            .map_err(no_such_size)
+        Parties::new(read_size(&mut fields)?).map(SchemeChoice::Parties)
     } else {
-        Err(line.fault(Reason::Letter, 1))
-    }
+        return Err(line.fault(Reason::Letter, 1));
+    };
+    choice.or(Err(line.fault(Reason::Level, 2)))
 }
 
 // The one line of a text. Where there are fewer lines or more, the refusal has no place.

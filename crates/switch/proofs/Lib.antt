@@ -1,4 +1,3 @@
 pub mod Transitions
 pub mod Sheets
 pub mod Filling
-pub mod Outs

@@ -1,5 +1,6 @@
 -- Reading a sheet inverts writing it. Assumes nothing.
 use Rattle.std.proofs.Common.{◌≡◌, ℕ, ◌+◌, ◌-◌, ◌<◌, ◌≤◌, Bool, true, false, cond, leb, List, [], ◌∷◌, ◌++◌, map, length, take, replicate, Ok, Err, Result, sym, refl, ap, ◌∙◌, subst, append_assoc, append-nil, arith}
+use Rattle.std.proofs.ByRecursion.{All-weaker, All-map}
 use Rattle.std.proofs.lemmas.List.{length_push, take_at, length-map}
 use Rattle.std.proofs.lemmas.Bool.{leb-true, leb-false, le-leb, lt-leb}
 use Rattle.std.specs.List.{AllByRecursion}
@@ -21,7 +22,7 @@ use Rattle.switch.proofs.Transitions.{line_read_is_writing, writing_is_read, lin
 
 -- lines are kept in order, up to 64
 kept : (ls us : List SwitchLine) (n : ℕ) (l : SwitchLine) (b : Bool) → leb 64 (length ls) ≡ b → cond b (Err (full_at n)) (Ok (ls ++ l ∷ [])) ≡ Ok us → (length ls < 64) × (ls ++ l ∷ [] ≡ us)
-kept ls us n l true s e = let z : ◌≡◌ {A = ℕ} 0 1 = cc in absurd (omega arith)
+kept ls us n l true s e = absurd cc
 kept ls us n l false s e = (leb-false 64 (length ls) s, cc)
 
 built_is_kept : (acc us : List SwitchLine) (n : ℕ) (ls : List SwitchLine) → length acc ≤ 64 → Built keep acc n ls us → (acc ++ ls ≡ us) × (length us ≤ 64)
@@ -44,16 +45,13 @@ kept_is_built acc n (l ∷ ls) h =
 
 -- what is written of lines that fit keeps the limits on bytes
 all_clean : (ls : List SwitchLine) → AllByRecursion Fit ls → AllByRecursion (λ l. is_clean (line_bytes l) ≡ true) ls
-all_clean [] f = tt
-all_clean (l ∷ ls) f = (line_is_clean l f.0, all_clean ls f.1)
+all_clean ls f = All-weaker Fit _ line_is_clean ls f
 
 all_free : (ls : List SwitchLine) → AllByRecursion Fit ls → AllByRecursion (Free 10) (map line_bytes ls)
-all_free [] f = tt
-all_free (l ∷ ls) f = (clean_is_free (line_bytes l) (line_is_clean l f.0), all_free ls f.1)
+all_free ls f = All-map (Free 10) line_bytes ls (All-weaker Fit _ (λ l h. clean_is_free (line_bytes l) (line_is_clean l h)) ls f)
 
 all_short : (ls : List SwitchLine) → AllByRecursion Fit ls → AllByRecursion (λ p. length p ≤ 80) (map line_bytes ls)
-all_short [] f = tt
-all_short (l ∷ ls) f = (line_is_short l f.0, all_short ls f.1)
+all_short ls f = All-map _ line_bytes ls (All-weaker Fit _ line_is_short ls f)
 
 sheet_is_short : (ls : List SwitchLine) → Sheet ls → length (written ls) ≤ 8192
 sheet_is_short ls s =

@@ -3,8 +3,7 @@ use Rattle.std.specs.Prelude.{◌≡◌, ℕ, ◌-◌, cond, List, [], ◌∷◌
 use Rattle.fault.specs.declared.Fault.{Fault}
 use Rattle.fault.specs.declared.Reason.TheVariants as reason
 use Rattle.fault.specs.Faults.{unplaced, then}
-use Rattle.text.specs.declared.field.Field.{Field}
-use Rattle.text.specs.Fields.{dash_in, is_dash, number_of}
+use Rattle.text.specs.Fields.{dash_in}
 use Rattle.text.specs.Building.{two_steps}
 use Rattle.text.specs.Lines.{text_limit}
 use Rattle.text.specs.Numbers.{number_in}
@@ -30,10 +29,6 @@ as_out (Some channel) = Some (Some channel)
 -- `-` for no ticket, or an out channel
 abbrev pub out_in : List ℕ → Option (Option ℕ)
 out_in f = cond (dash_in f) (Some None) (as_out (number_in 16 31 f))
-
--- the same of a field
-abbrev pub out_of : Field → Option (Option ℕ)
-out_of f = cond (is_dash f) (Some None) (as_out (number_of 16 31 f))
 
 abbrev pub out_in_head : Option (List ℕ) → Option (Option ℕ)
 out_in_head None = None

@@ -6,7 +6,7 @@ pub struct SwitchLine {
     pub low: u32,
     pub high: u32,
     pub next: u8,
-    // None makes no ticket, and has the value 0. Not one Option of both: what takes lines refuses the others.
+    // None makes no ticket, and has the value 0; load refuses a lent line that has another.
     pub out: Option<u8>,
     pub value: u32,
 }

@@ -2,32 +2,29 @@
 ghost use Rattle.std.specs.Prelude.{◌≡◌, ◌≤◌, length, replicate};
 ghost use Rattle.text.specs.Pieces.{pieces};
 ghost use Rattle.text.specs.Reading.{left_of, line_of, Taken};
-ghost use Rattle.switch.specs.Reading.{sheet_limit, blank, out_of, read_out, read_rest, line_in, reading, Filled, answer, lines_after};
+ghost use Rattle.switch.specs.Reading.{sheet_limit, blank, read_out, read_rest, line_in, reading, Filled, answer, lines_after};
 ghost use Rattle.switch.specs.Writing.{Accepts, ReadingInvertsWriting};
 
 use crate::line::SwitchLine;
 use fault::{Fault, Reason};
-use text::{Field, Fields, Line, Lines};
+use text::{Fields, Line, Lines};
 
 // The most lines of a sheet.
 pub const SHEET_LIMIT: usize = 64;
 
 // An out channel, 16 to 31, or `-` for none.
-fn out_of(field: Field<'_>) -> Option<Option<u8>>
-    ensures { result ≡ out_of field.entry }
-{
-    if field.is_dash() {
-        return Some(None);
-    }
-    Some(Some(field.number(16, 31)? as u8))
-}
-
-#[tactic(auto, using(crate::proofs::Outs::out_is_by_bytes))]
+#[tactic(auto, using(text::proofs::Forms::dash_is_by_bytes, text::proofs::Forms::number_is_by_bytes))]
 fn read_out(fields: &mut Fields<'_>) -> Result<Option<u8>, Fault>
     ensures value { result ≡ read_out (line_of fields.old) (left_of fields.old) }
     ensures taken { Taken fields.old fields.new }
 {
-    fields.take().and_then(out_of).ok_or(fields.fault(7))
+    let refused = fields.fault(7);
+    let field = fields.take().ok_or(refused)?;
+    if field.is_dash() {
+        return Ok(None);
+    }
+    let channel = field.number(16, 31).ok_or(refused)?;
+    Ok(Some(channel as u8))
 }
 
 // The fields after the letter.
