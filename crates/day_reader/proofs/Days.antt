@@ -1,22 +1,16 @@
 -- Reading a day inverts writing it, and counts its lines. Assumes nothing.
-use Rattle.std.proofs.Common.{◌≡◌, ℕ, ◌+◌, ◌≤◌, true, cond, eqb, leb, List, [], ◌∷◌, ◌++◌, map, length, Ok, Err, sym, refl, ap, ◌∙◌, subst, append_assoc, append-nil, zero-add, arith}
-use Rattle.std.proofs.ByRecursion.{All-weaker, All-map}
-use Rattle.std.proofs.lemmas.Bool.{leb-true, le-leb}
+use Rattle.std.proofs.Common.{◌≡◌, ℕ, ◌+◌, ◌≤◌, cond, eqb, List, [], ◌∷◌, ◌++◌, length, Ok, sym, refl, ap, ◌∙◌, subst, append_assoc, append-nil, zero-add, arith}
 use Rattle.std.proofs.lemmas.List.Sums.{sum_by-cons}
 use Rattle.std.specs.List.{AllByRecursion}
-use Rattle.fault.specs.declared.Reason.TheVariants as reason
-use Rattle.fault.specs.Faults.{unplaced}
-use Rattle.fault.proofs.Then.{same_ok, cond_ok}
+use Rattle.fault.proofs.Then.{same_ok}
 use Rattle.parts.specs.Parts.{feeds}
 use Rattle.text.specs.Building.{Built}
-use Rattle.text.specs.Lines.{is_clean}
-use Rattle.text.specs.Texts.{strict}
-use Rattle.text.proofs.Built.{accepted_text_is_written, written_text_is_accepted}
+use Rattle.text.proofs.Built.{text_read_is_written, written_text_is_read}
 use Rattle.text.proofs.Cutting.{Free}
 use Rattle.text.proofs.Printing.{clean_is_free}
 use Rattle.day_reader.specs.declared.hand_in.HandIn.{HandIn}
 use Rattle.day_reader.specs.HandIns.{Fit}
-use Rattle.day_reader.specs.Reading.{parse, keep, lines_in, reading}
+use Rattle.day_reader.specs.Reading.{parse, keep, reading}
 use Rattle.day_reader.specs.Writing.{line_bytes, written, Day, ReadingInvertsWriting, ReadingCountsLines}
 use Rattle.day_reader.proofs.Lines.{line_read_is_writing, writing_is_read, line_is_clean}
 
@@ -34,31 +28,21 @@ kept_is_built acc n (h ∷ hs) = (
   subst (λ (x : List HandIn). Built keep (acc ++ h ∷ []) (n + 1) hs x) (append_assoc acc (h ∷ []) hs) (kept_is_built (acc ++ h ∷ []) (n + 1) hs),
 )
 
--- what is written of a line that fits is clean, and holds no line feed
-all_clean : (hs : List HandIn) → AllByRecursion Fit hs → AllByRecursion (λ h. is_clean (line_bytes h) ≡ true) hs
-all_clean hs f = All-weaker Fit _ line_is_clean hs f
-
+-- what is written of a line that fits holds no line feed
 line_is_free : (h : HandIn) → Fit h → Free 10 (line_bytes h)
 line_is_free h f = clean_is_free (line_bytes h) (line_is_clean h f)
 
-all_free : (hs : List HandIn) → AllByRecursion Fit hs → AllByRecursion (Free 10) (map line_bytes hs)
-all_free hs f = All-map (Free 10) line_bytes hs (All-weaker Fit _ line_is_free hs f)
-
 pub reading_is_written : (t : List ℕ) (hs : List HandIn) → reading t ≡ Ok hs → (t ≡ written hs) × Day hs
 reading_is_written t hs e =
-    let x = cond_ok (leb (length t) 8192) (lines_in t) (unplaced reason.Overlong) hs e in
-    let a = accepted_text_is_written parse keep line_bytes Fit line_read_is_writing writing_is_read strict [] hs t x.1 in
-    let k = built_is_kept [] hs 0 a.0 a.4 in
+    let a = text_read_is_written parse keep line_bytes Fit line_read_is_writing writing_is_read [] hs t e in
+    let k = built_is_kept [] hs 0 a.0 a.3 in
     let w : t ≡ written hs = a.1 ∙ ap written k in
-    let le = leb-true (length t) 8192 x.0 in
-    (w, record { fit = subst (λ (x : List HandIn). AllByRecursion Fit x) k a.2; short = subst (λ (x : List ℕ). length x ≤ 8192) w le })
+    (w, record { fit = subst (λ (x : List HandIn). AllByRecursion Fit x) k a.2; short = subst (λ (x : List ℕ). length x ≤ 8192) w a.4 })
 
 pub written_is_reading : (t : List ℕ) (hs : List HandIn) → (t ≡ written hs) × Day hs → reading t ≡ Ok hs
 written_is_reading t hs h =
-    let f = h.1.fit in
     ap reading h.0
-    ∙ ap (λ b. cond b (lines_in (written hs)) (Err (unplaced reason.Overlong))) (le-leb (length (written hs)) 8192 h.1.short)
-    ∙ written_text_is_accepted parse keep line_bytes Fit line_read_is_writing writing_is_read strict [] hs hs f (all_clean hs f) (all_free hs f) (kept_is_built [] 0 hs)
+    ∙ written_text_is_read parse keep line_bytes Fit line_read_is_writing writing_is_read line_is_clean [] hs hs h.1.fit h.1.short (kept_is_built [] 0 hs)
 
 pub reading_inverts_writing : ReadingInvertsWriting
 reading_inverts_writing t hs = (reading_is_written t hs, written_is_reading t hs)

@@ -1,14 +1,12 @@
 -- What the text of a day is read as. Assumes nothing.
-use Rattle.std.specs.Prelude.{ℕ, cond, List, [], ◌∷◌, ◌++◌, length, Ok, Err, Result, ◌==◌, nat_le}
+use Rattle.std.specs.Prelude.{ℕ, cond, List, [], ◌∷◌, ◌++◌, Ok, Err, Result, ◌==◌}
 use Rattle.fault.specs.declared.Fault.{Fault}
-use Rattle.fault.specs.declared.Reason.TheVariants as reason
-use Rattle.fault.specs.Faults.{unplaced, then}
+use Rattle.fault.specs.Faults.{then}
 use Rattle.text.specs.Building.{two_steps}
-use Rattle.text.specs.Lines.{text_limit}
 use Rattle.text.specs.Pieces.{pieces}
 use Rattle.text.specs.Places.{letter_at}
 use Rattle.text.specs.Reading.{tail_of, read_letter, read_number, read_end}
-use Rattle.text.specs.Texts.{strict, on_lines}
+use Rattle.text.specs.Texts.{read_text}
 use Rattle.day_reader.specs.declared.hand_in.HandIn.{HandIn}
 
 -- line n, whose fields after the letter are f2
@@ -33,8 +31,5 @@ abbrev pub keep : List HandIn → ℕ → HandIn → Result (List HandIn) Fault
 keep hs n h = Ok (hs ++ h ∷ [])
 
 -- the lines of a text
-abbrev pub lines_in : List ℕ → Result (List HandIn) Fault
-lines_in t = on_lines strict (two_steps parse keep) [] 0 (pieces 10 t)
-
 abbrev pub reading : List ℕ → Result (List HandIn) Fault
-reading t = cond (nat_le (length t) text_limit) (lines_in t) (Err (unplaced reason.Overlong))
+reading t = read_text (two_steps parse keep) [] t

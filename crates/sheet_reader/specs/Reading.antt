@@ -1,17 +1,15 @@
 -- What the text of a level sheet is read as. Assumes nothing.
-use Rattle.std.specs.Prelude.{◌≡◌, ℕ, cond, List, [], ◌∷◌, ◌++◌, length, Ok, Err, Result, ◌==◌, nat_le, nat_lt}
+use Rattle.std.specs.Prelude.{◌≡◌, ℕ, cond, List, [], ◌∷◌, ◌++◌, Ok, Err, Result, ◌==◌, nat_lt}
 use Rattle.fault.specs.declared.Fault.{Fault}
-use Rattle.fault.specs.declared.Reason.TheVariants as reason
-use Rattle.fault.specs.Faults.{unplaced, then}
+use Rattle.fault.specs.Faults.{then}
 use Rattle.levels.specs.Scheme.{Levels}
 use Rattle.sheet.specs.declared.LevelSheet.{LevelSheet}
 use Rattle.sheet.specs.Sheets.{uniform}
 use Rattle.text.specs.Building.{two_steps}
-use Rattle.text.specs.Lines.{text_limit}
 use Rattle.text.specs.Pieces.{pieces}
 use Rattle.text.specs.Places.{letter_at, twice_at, level_at}
 use Rattle.text.specs.Reading.{tail_of, read_letter, read_number, read_end}
-use Rattle.text.specs.Texts.{strict, on_lines}
+use Rattle.text.specs.Texts.{read_text}
 use Rattle.sheet_reader.specs.declared.line.Name.{Name}
 use Rattle.sheet_reader.specs.declared.line.Name.TheVariants.{Channel, Variable}
 use Rattle.sheet_reader.specs.declared.line.SheetLine.{SheetLine}
@@ -44,13 +42,9 @@ add L ls n l =
     cond (has_name ls l.name) (Err (twice_at n))
     (cond (nat_lt l.level L.count) (Ok (ls ++ l ∷ [])) (Err (level_at n 3)))
 
--- the lines of a text
-abbrev pub lines_in : Levels → List ℕ → Result (List SheetLine) Fault
-lines_in L t = on_lines strict (two_steps parse (add L)) [] 0 (pieces 10 t)
-
 -- a text stands for the list of its lines: in another order they are another list, which gives the same levels
 abbrev pub reading : Levels → List ℕ → Result (List SheetLine) Fault
-reading L t = cond (nat_le (length t) text_limit) (lines_in L t) (Err (unplaced reason.Overlong))
+reading L t = read_text (two_steps parse (add L)) [] t
 
 abbrev pub answer : Result (List SheetLine) Fault → Result (Unit {0}) Fault
 answer (Ok ls) = Ok tt

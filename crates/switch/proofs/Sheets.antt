@@ -1,22 +1,18 @@
 -- Reading a sheet inverts writing it. Assumes nothing.
-use Rattle.std.proofs.Common.{◌≡◌, ℕ, ◌+◌, ◌-◌, ◌<◌, ◌≤◌, Bool, true, false, cond, leb, List, [], ◌∷◌, ◌++◌, map, length, take, replicate, Ok, Err, Result, sym, refl, ap, ◌∙◌, subst, append_assoc, append-nil, arith}
-use Rattle.std.proofs.ByRecursion.{All-weaker, All-map}
-use Rattle.std.proofs.lemmas.List.{length_push, take_at, length-map}
-use Rattle.std.proofs.lemmas.Bool.{leb-true, leb-false, le-leb, lt-leb}
+use Rattle.std.proofs.Common.{◌≡◌, ℕ, ◌+◌, ◌-◌, ◌<◌, ◌≤◌, Bool, true, false, cond, leb, List, [], ◌∷◌, ◌++◌, length, take, replicate, Ok, Err, Result, sym, refl, ap, ◌∙◌, subst, append_assoc, append-nil, arith}
+use Rattle.std.proofs.lemmas.List.{length_push, take_at}
+use Rattle.std.proofs.lemmas.Bool.{leb-true, leb-false, lt-leb}
 use Rattle.std.specs.List.{AllByRecursion}
 use Rattle.fault.specs.declared.Fault.{Fault}
 use Rattle.fault.specs.declared.Reason.TheVariants as reason
 use Rattle.fault.specs.Faults.{unplaced}
 use Rattle.text.specs.Building.{Built}
-use Rattle.text.specs.Lines.{is_clean}
 use Rattle.text.specs.Places.{full_at}
-use Rattle.text.specs.Texts.{strict}
-use Rattle.text.proofs.Built.{accepted_text_is_written, written_text_is_accepted}
-use Rattle.text.proofs.Cutting.{Free}
-use Rattle.text.proofs.Printing.{length_fed, clean_is_free}
-use Rattle.fault.proofs.Then.{cond_ok, ok_not_err}
+use Rattle.text.proofs.Built.{text_read_is_written, written_text_is_read}
+use Rattle.text.proofs.Printing.{fed_lines_are_short}
+use Rattle.fault.proofs.Then.{ok_not_err}
 use Rattle.switch.specs.declared.line.SwitchLine.{SwitchLine}
-use Rattle.switch.specs.Reading.{blank, parse, keep, lines_in, reading, counted, padded, answer, lines_after}
+use Rattle.switch.specs.Reading.{blank, parse, keep, reading, counted, padded, answer, lines_after}
 use Rattle.switch.specs.Writing.{line_bytes, written, Fit, Sheet, ReadingInvertsWriting, Accepts}
 use Rattle.switch.proofs.Transitions.{line_read_is_writing, writing_is_read, line_is_clean, line_is_short}
 
@@ -43,35 +39,19 @@ kept_is_built acc n (l ∷ ls) h =
       subst (λ (x : List SwitchLine). Built keep (acc ++ l ∷ []) (n + 1) ls x) (append_assoc acc (l ∷ []) ls) (kept_is_built (acc ++ l ∷ []) (n + 1) ls (omega arith)),
     )
 
--- what is written of lines that fit keeps the limits on bytes
-all_clean : (ls : List SwitchLine) → AllByRecursion Fit ls → AllByRecursion (λ l. is_clean (line_bytes l) ≡ true) ls
-all_clean ls f = All-weaker Fit _ line_is_clean ls f
-
-all_free : (ls : List SwitchLine) → AllByRecursion Fit ls → AllByRecursion (Free 10) (map line_bytes ls)
-all_free ls f = All-map (Free 10) line_bytes ls (All-weaker Fit _ (λ l h. clean_is_free (line_bytes l) (line_is_clean l h)) ls f)
-
-all_short : (ls : List SwitchLine) → AllByRecursion Fit ls → AllByRecursion (λ p. length p ≤ 80) (map line_bytes ls)
-all_short ls f = All-map _ line_bytes ls (All-weaker Fit _ line_is_short ls f)
-
 sheet_is_short : (ls : List SwitchLine) → Sheet ls → length (written ls) ≤ 8192
-sheet_is_short ls s =
-    let a = length_fed 80 (map line_bytes ls) (all_short ls s.1) in
-    let b = length-map ls line_bytes in
-    omega (arith, s.0)
+sheet_is_short ls s = let a = fed_lines_are_short line_bytes Fit line_is_short ls s.1 in omega (arith, s.0)
 
 reading_is_written : (t : List ℕ) (ls : List SwitchLine) → reading t ≡ Ok ls → (t ≡ written ls) × Sheet ls
 reading_is_written t ls e =
-    let x = cond_ok (leb (length t) 8192) (lines_in t) (unplaced reason.Overlong) ls e in
-    let a = accepted_text_is_written parse keep line_bytes Fit line_read_is_writing writing_is_read strict [] ls t x.1 in
-    let k = built_is_kept [] ls 0 a.0 (omega arith) a.4 in
+    let a = text_read_is_written parse keep line_bytes Fit line_read_is_writing writing_is_read [] ls t e in
+    let k = built_is_kept [] ls 0 a.0 (omega arith) a.3 in
     (a.1 ∙ ap written k.0, (k.1, subst (λ (x : List SwitchLine). AllByRecursion Fit x) k.0 a.2))
 
 written_is_reading : (t : List ℕ) (ls : List SwitchLine) → (t ≡ written ls) × Sheet ls → reading t ≡ Ok ls
 written_is_reading t ls h =
-    let f = h.1.1 in
     ap reading h.0
-    ∙ ap (λ b. cond b (lines_in (written ls)) (Err (unplaced reason.Overlong))) (le-leb (length (written ls)) 8192 (sheet_is_short ls h.1))
-    ∙ written_text_is_accepted parse keep line_bytes Fit line_read_is_writing writing_is_read strict [] ls ls f (all_clean ls f) (all_free ls f) (kept_is_built [] 0 ls (omega (arith, h.1.0)))
+    ∙ written_text_is_read parse keep line_bytes Fit line_read_is_writing writing_is_read line_is_clean [] ls ls h.1.1 (sheet_is_short ls h.1) (kept_is_built [] 0 ls (omega (arith, h.1.0)))
 
 pub reading_inverts_writing : ReadingInvertsWriting
 reading_inverts_writing t ls = (reading_is_written t ls, written_is_reading t ls)

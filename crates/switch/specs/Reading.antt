@@ -5,12 +5,11 @@ use Rattle.fault.specs.declared.Reason.TheVariants as reason
 use Rattle.fault.specs.Faults.{unplaced, then}
 use Rattle.text.specs.Fields.{dash_in}
 use Rattle.text.specs.Building.{two_steps}
-use Rattle.text.specs.Lines.{text_limit}
 use Rattle.text.specs.Numbers.{number_in}
 use Rattle.text.specs.Pieces.{pieces}
 use Rattle.text.specs.Places.{letter_at, field_at, full_at}
 use Rattle.text.specs.Reading.{head_of, tail_of, or_refused, read_letter, read_number, read_end}
-use Rattle.text.specs.Texts.{strict, on_lines}
+use Rattle.text.specs.Texts.{read_text}
 use Rattle.switch.specs.declared.line.SwitchLine.{SwitchLine}
 
 -- the most lines of a sheet
@@ -74,11 +73,8 @@ abbrev pub keep : List SwitchLine → ℕ → SwitchLine → Result (List Switch
 keep ls n l = cond (nat_le sheet_limit (length ls)) (Err (full_at n)) (Ok (ls ++ l ∷ []))
 
 -- the lines of a text
-abbrev pub lines_in : List ℕ → Result (List SwitchLine) Fault
-lines_in t = on_lines strict (two_steps parse keep) [] 0 (pieces 10 t)
-
 abbrev pub reading : List ℕ → Result (List SwitchLine) Fault
-reading t = cond (nat_le (length t) text_limit) (lines_in t) (Err (unplaced reason.Overlong))
+reading t = read_text (two_steps parse keep) [] t
 
 abbrev pub counted : Result (List SwitchLine) Fault → Result ℕ Fault
 counted (Ok ls) = Ok (length ls)

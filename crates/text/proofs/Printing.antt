@@ -1,8 +1,10 @@
 -- What is written of fields and lines is printable, short, and holds no mark. Assumes nothing.
-use Rattle.std.proofs.Common.{◌≡◌, ℕ, ◌+◌, ◌*◌, ◌≤◌, Bool, true, false, eqb, leb, List, [], ◌∷◌, ◌++◌, length, refl, ◌∙◌, subst, ⊎_elim, mul-suc, arith, length-append}
+use Rattle.std.proofs.Common.{◌≡◌, ℕ, ◌+◌, ◌*◌, ◌≤◌, Bool, true, false, eqb, leb, List, [], ◌∷◌, ◌++◌, map, length, refl, ◌∙◌, subst, ⊎_elim, mul-suc, arith, length-append}
 use Rattle.std.proofs.lemmas.List.Folds.{list_all-append}
 use Rattle.std.proofs.lemmas.Bool.{and_parts, and_from, both_ways, cases_Bool, eqb-true, le-leb}
 use Rattle.std.proofs.lemmas.Bool.Decides.{nat_tests}
+use Rattle.std.proofs.ByRecursion.{All-weaker, All-map}
+use Rattle.std.proofs.lemmas.List.{length-map}
 use Rattle.std.specs.List.{AllByRecursion}
 use Rattle.text.specs.Classes.{is_digit, is_printable}
 use Rattle.text.specs.Lines.{all_printable, is_clean}
@@ -52,6 +54,12 @@ length_fed k (p ∷ ps) h =
     let r = length_fed k ps h.1 in
     let a = h.0 in
     let m = mul-suc (k + 1) (length ps) in
+    omega arith
+
+pub fed_lines_are_short : {A : Type 0} (bytes : A → List ℕ) (Fit : A → Type 0) → ((a : A) → Fit a → length (bytes a) ≤ 80) → (xs : List A) → AllByRecursion Fit xs → length (fed (map bytes xs)) ≤ 81 * length xs
+fed_lines_are_short bytes Fit short xs f =
+    let a = length_fed 80 (map bytes xs) (All-map _ bytes xs (All-weaker Fit _ short xs f)) in
+    let b = length-map xs bytes in
     omega arith
 
 pub printable_is_free : (bs : List ℕ) → all_printable bs ≡ true → Free 10 bs

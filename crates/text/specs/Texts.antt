@@ -1,9 +1,11 @@
 -- A text read line by line. Assumes nothing.
-use Rattle.std.specs.Prelude.{◌≡◌, ℕ, ◌+◌, Bool, true, cond, ◌⊎◌, List, [], ◌∷◌, ◌++◌, length, Ok, Err, Result, ◌==◌}
+use Rattle.std.specs.Prelude.{◌≡◌, ℕ, ◌+◌, Bool, true, cond, ◌⊎◌, List, [], ◌∷◌, ◌++◌, length, Ok, Err, Result, ◌==◌, nat_le}
 use Rattle.fault.specs.declared.Fault.{Fault}
-use Rattle.text.specs.Lines.{is_clean}
+use Rattle.fault.specs.declared.Reason.TheVariants as reason
+use Rattle.fault.specs.Faults.{unplaced, then}
+use Rattle.text.specs.Lines.{text_limit, is_clean}
+use Rattle.text.specs.Pieces.{pieces}
 use Rattle.text.specs.Places.{ragged_at}
-use Rattle.fault.specs.Faults.{then}
 
 -- the text of some lines: each with its line feed
 abbrev pub fed : List (List ℕ) → List ℕ
@@ -37,6 +39,10 @@ abbrev pub on_lines : {S : Type 0} → Manner → Step S → S → ℕ → List 
 on_lines m step s n [] = Ok s
 on_lines m step s n (p ∷ []) = on_rest m step s (n + 1) p
 on_lines m step s n (p ∷ q ∷ qs) = then (on_line m step s (n + 1) p) (λ t. on_lines m step t (n + 1) (q ∷ qs))
+
+-- a text that keeps the limit, read from the state s
+abbrev pub read_text : {S : Type 0} → Step S → S → List ℕ → Result S Fault
+read_text step s t = cond (nat_le (length t) text_limit) (on_lines strict step s 0 (pieces 10 t)) (Err (unplaced reason.Overlong))
 
 -- a text is these lines; where raggedness is set aside, perhaps without the last line feed
 abbrev pub TextOf : Manner → List ℕ → List (List ℕ) → Type 0
