@@ -39,8 +39,7 @@ places_tell (Variable v) (Variable w) f g e = let q : v ≡ w = omega arith in a
 or_swap : (a b c : Bool) → (a || (b || c)) ≡ (b || (a || c))
 or_swap true true c = refl
 or_swap true false c = refl
-or_swap false true c = refl
-or_swap false false c = refl
+or_swap false b c = refl
 
 pub has_name_push : (ls : List SheetLine) (l : SheetLine) (m : Name) → has_name (ls ++ l ∷ []) m ≡ (same_name l.name m || has_name ls m)
 has_name_push [] l m = refl

@@ -70,6 +70,6 @@ fn is_made(out: Option<u8>, value: u32) -> bool
 {
     match out {
         None => value == 0,
-        Some(channel) => 16 <= channel && channel <= 31,
+        Some(channel) => (16..=31).contains(&channel),
     }
 }
