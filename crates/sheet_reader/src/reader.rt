@@ -44,7 +44,7 @@ fn fill_sheet<S: Scheme>(text: &[u8], scheme: &S, sheet: &mut LevelSheet) -> Res
     let lowest = scheme.lowest();
     *sheet = LevelSheet::uniform(lowest);
     let levels = scheme.count();
-    // named[p]: a line named the place p already.
+    // named[p]: a line named the place p already. An array, as the reader has no heap.
     let mut named = [false; NAMES];
     for line in Lines::new(text)? {
         let line = line?;
