@@ -57,6 +57,7 @@ pub fn reading_inverts_writing()
 {}
 
 // A theorem: a day has as many hand-ins as its text has line feeds.
+#[tactic(auto, using(crate::proofs::Days::reading_counts_lines))]
 pub fn reading_counts_lines()
     ensures { ReadingCountsLines }
 {}
