@@ -16,6 +16,7 @@ pub fn number(bytes: &[u8], low: u32, high: u32) -> Option<u32>
 }
 
 // Stops as soon as the value passes `high`, so that any count of digits fits.
+#[tactic(auto, using(crate::proofs::Decimals::digit_here, crate::proofs::Decimals::no_digit_here, crate::proofs::Decimals::too_large_here))]
 fn digits(bytes: &[u8], high: u32) -> Option<u32>
     ensures value { result ≡ digits_in high 0 bytes.now }
     ensures most { IfSome result (λ n. n ≤ high) }
