@@ -17,6 +17,7 @@ pub fn level_of_batch<S: Scheme>(scheme: &S, sheet: &LevelSheet, bytes: &[u8]) -
     ensures least { Levelled (S.levels scheme.now) sheet.now bytes.now result }
 {
     sheet.check(scheme)?;
+    // The same test stands where tickets are fed, and is answered by a printed line there.
     if bytes.len() % 8 != 0 {
         return Err(Fault::unplaced(Reason::Record));
     }

@@ -23,6 +23,7 @@ fn extent_of(rows: &[Row]) -> usize
     }
 }
 
+// One line, as of other tables elsewhere: a generic one would have no crate of its own.
 fn is_all_blank(terms: &[Term]) -> bool
     ensures { result ≡ all_blank terms.now }
 {

@@ -47,7 +47,7 @@ impl Job {
         Ok(())
     }
 
-    // Gives a variable the value of an expression, in a step.
+    // Gives a variable the value of an expression, in a step. A variable is a plain number, as lent rows and terms have it.
     pub fn store(&mut self, variable: u8, expression: Expression<'_>) -> Result<(), Stalled>
         requires { variable < 16 }
         ensures { Runs self.old (assign variable (expression_of expression.entry.terms.now)) result self.new }

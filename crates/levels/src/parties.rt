@@ -15,6 +15,7 @@ pub struct Parties {
 }
 
 impl Parties {
+    // One test, as the other schemes' of other limits.
     pub fn new(number: u8) -> Result<Parties, Fault>
         ensures { Accepts (is_parties number) (λ p. p.number ≡ number) reason.Level result }
     {

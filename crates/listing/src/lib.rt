@@ -53,6 +53,7 @@ fn put_record(out: &mut Vec<u8>, record: &[u8]) -> Result<(), AllocError>
     }
 }
 
+// By its direction; the line of a reaction's ticket has other entries.
 fn put_ticket(out: &mut Vec<u8>, ticket: Ticket) -> Result<(), AllocError>
     ensures { Appends out.old (ticket_line ticket) result out.new }
 {

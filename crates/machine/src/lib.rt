@@ -26,7 +26,7 @@ pub trait Machine {
     // What each implementation has to show of its meaning.
     ghost lawful: { (m : Self) → Lawful (meaning m) };
 
-    // Never refuses. The slip holds the tickets made, and beyond them what it held.
+    // Never refuses. The slip holds the tickets made, and beyond them what it held: it is lent, as the words are.
     fn react(&self, words: &mut Words, ticket: Ticket, allowance: u16, slip: &mut Slip) -> Reaction
         ensures { Reacts (meaning self.now words.old ticket allowance) slip.old result words.new slip.new };
 }

@@ -82,6 +82,7 @@ pub fn read_program(text: &[u8], rows: &mut [Row], terms: &mut [Term]) -> Result
     rows.fill(Row::BLANK);
     terms.fill(Term::BLANK);
     let read = fill_tables(text, rows, terms);
+    // Each reader wipes what it was lent, in a line for each place.
     if read.is_err() {
         rows.fill(Row::BLANK);
         terms.fill(Term::BLANK);

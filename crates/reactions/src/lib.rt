@@ -29,6 +29,7 @@ pub fn list_reactions<M: Machine>(
     Ok(())
 }
 
+// The printer and the number stay two parameters here and below: each line's function begins with what it prints into.
 fn put_turn<M: Machine>(
     out: &mut Vec<u8>,
     machine: &M,
@@ -60,6 +61,7 @@ fn put_made(out: &mut Vec<u8>, n: u64, tickets: &[Ticket]) -> Result<(), AllocEr
     Ok(())
 }
 
+// Behind the number of the record that made it.
 fn put_ticket(out: &mut Vec<u8>, n: u64, ticket: Ticket) -> Result<(), AllocError>
     ensures { Appends out.old (made_line n ticket) result out.new }
 {

@@ -69,6 +69,7 @@ pub fn read_sheet<S: Scheme>(text: &[u8], scheme: &S, sheet: &mut LevelSheet) ->
     ensures accepts { Accepts (S.levels scheme.now) text.now result sheet.new }
 {
     let read = fill_sheet(text, scheme, sheet);
+    // Each reader wipes what it was lent, in a line for each place.
     if read.is_err() {
         *sheet = LevelSheet::uniform(0);
     }

@@ -95,6 +95,7 @@ pub fn read_switch(text: &[u8], lines: &mut [SwitchLine]) -> Result<usize, Fault
     }
     lines.fill(SwitchLine::BLANK);
     let read = fill_lines(text, lines);
+    // Each reader wipes what it was lent, in a line for each place.
     if read.is_err() {
         lines.fill(SwitchLine::BLANK);
     }

@@ -51,6 +51,7 @@ fn all_fit(lines: &[SwitchLine]) -> bool
     lines.iter().all(|line| is_fit(*line))
 }
 
+// One line, as of other tables elsewhere: a generic one would have no crate of its own.
 fn all_blank(lines: &[SwitchLine]) -> bool
     ensures { result ≡ all_blank lines.now }
 {

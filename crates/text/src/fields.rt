@@ -38,7 +38,7 @@ impl<'a> Fields<'a> {
         Some(Field::of(part))
     }
 
-    // The refusal of the field at a place; the letter has the place 1.
+    // The refusal of the field at a place; the letter has the place 1. A call names its place, as the tables of formats do.
     pub fn fault(&self, place: u8) -> Fault
         ensures { result ≡ field_at (line_of self.now) place }
     {

@@ -9,7 +9,7 @@ use fault::{Fault, Reason};
 // The most bytes of a text.
 pub const TEXT_LIMIT: usize = 8192;
 
-// What is left of a text behind `count` lines. Each line takes a byte, so that its number fits.
+// What is left of a text behind `count` lines. Each line takes at least one byte, so that its number fits.
 #[derive(Drop)]
 pub struct Lines<'a> {
     left: &'a [u8],
