@@ -32,6 +32,7 @@ pub fn used_by(rows: &[Row], terms: &[Term]) -> Option<usize>
     let mut own = [Row::BLANK; ROW_LIMIT];
     let mut nesting = Nesting::new();
     let mut used = 0;
+    // Not `zip(1..)`: a row is told by its place, and behind a zip each exit wants a proof of that place.
     for (j, &row) in rows.iter().enumerate() {
         if !is_fitted(row, used, terms) {
             return None;

@@ -255,36 +255,64 @@ module _ (kd : Kind) (e : Expr) (rows : List Row) (terms : List Term) (o : ℕ) 
                 ),
           )
 
--- the lines of a block lead to its rows
-block_runs : (d : ℕ) (b : Block) (rows : List Row) (terms : List Term) (o : ℕ) (os : List ℕ) → FitBlock d b → d + length os ≤ 8 → length rows + length (block_lines b) ≤ 128 → length terms + width b ≤ 512 → Runs (tables rows terms (o ∷ os)) (block_lines b) (Blocked rows terms (o ∷ os) b)
-block_runs d done rows terms o os fit deep a b = sym (same_tables _ _ _ _ (o ∷ os) (append-nil rows) (append-nil terms))
-block_runs d (skip k) rows terms o os fit deep a b =
+-- the lines of a block, behind rows that leave some open, lead to its rows
+abbrev Leads : ℕ → Block → Type 0
+Leads d b = (rows : List Row) (terms : List Term) (o : ℕ) (os : List ℕ) → d + length os ≤ 8 → length rows + length (block_lines b) ≤ 128 → length terms + width b ≤ 512 → Runs (tables rows terms (o ∷ os)) (block_lines b) (Blocked rows terms (o ∷ os) b)
+
+module _ (rows : List Row) (terms : List Term) (o : ℕ) (os : List ℕ) (d : ℕ) (deep : d + length os ≤ 8) where
+  -- a row that opens nothing, and then a block
+  plain_runs : (kd : Kind) (ts : List Term) (k : Block) → Leads d k → nested rows (o ∷ os) (length rows) kd ≡ Some (rows, o ∷ os) → is_twice kd rows ≡ false
+      → length rows + length ((kd, ts) ∷ block_lines k) ≤ 128 → length terms + length (ts ++ all_terms (block_lines k)) ≤ 512
+      → Runs (tables rows terms (o ∷ os)) ((kd, ts) ∷ block_lines k) (tables (rows ++ row kd (length terms) (length ts) 0 ∷ block_rows (length rows + 1) (length terms + length ts) k) (terms ++ (ts ++ all_terms (block_lines k))) (o ∷ os))
+  plain_runs kd ts k leads e w a b =
+      let r = row kd (length terms) (length ts) 0 in
+      let l = length_push rows r in
+      let m = length-append terms ts in
+      let n = length-append ts (all_terms (block_lines k)) in (
+        tables (rows ++ r ∷ []) (terms ++ ts) (o ∷ os),
+        plain_step rows terms o os kd ts e w (omega arith) (omega arith),
+        after_line rows r terms ts (o ∷ os) k _ refl (leads (rows ++ r ∷ []) (terms ++ ts) o os deep (omega arith) (omega arith)),
+      )
+
+  -- a row that opens one part, the part, its end, and then a block
+  one_part_runs : (kd : Kind) (e : Expr) (p k : Block) → Leads (d - 1) p → Leads d k → 0 < d → nested rows (o ∷ os) (length rows) kd ≡ opens rows (o ∷ os) (length rows) → is_twice kd rows ≡ false
+      → length rows + length ((kd, terms_of e) ∷ (block_lines p ++ close_line ∷ block_lines k)) ≤ 128 → length terms + length (terms_of e ++ all_terms (block_lines p ++ close_line ∷ block_lines k)) ≤ 512
+      → Runs (tables rows terms (o ∷ os)) ((kd, terms_of e) ∷ (block_lines p ++ close_line ∷ block_lines k)) (tables (rows ++ row kd (length terms) (length (terms_of e)) (length rows + 1 + length (block_rows (length rows + 1) (length terms + length (terms_of e)) p)) ∷ (block_rows (length rows + 1) (length terms + length (terms_of e)) p ++ row kind.Close (length terms + length (terms_of e) + width p) 0 0 ∷ block_rows (length rows + 1 + length (block_rows (length rows + 1) (length terms + length (terms_of e)) p) + 1) (length terms + length (terms_of e) + width p) k)) (terms ++ (terms_of e ++ all_terms (block_lines p ++ close_line ∷ block_lines k))) (o ∷ os))
+  one_part_runs kd e p k inner leads pos n w a b =
+      let x1 = length_push rows (opener kd e rows terms o os 0) in
+      let x2 = length-append terms (terms_of e) in
+      let x3 = length-append (terms ++ terms_of e) (all_terms (block_lines p)) in
+      let x4 = length-append (block_lines p) (close_line ∷ block_lines k) in
+      let x5 = length-append (terms_of e) (all_terms (block_lines p ++ close_line ∷ block_lines k)) in
+      let x6 = width_closed (block_lines p) (block_lines k) in
+      let u₁ = length terms + length (terms_of e) in
+      let first = block_rows (length rows + 1) u₁ p in
+      let r₁ = row kd (length terms) (length (terms_of e)) (length rows + 1 + length first) in
+      let c₁ = row kind.Close (u₁ + width p) 0 0 in
+      let x7 = rows_like_lines (length rows + 1) u₁ p in
+      let x8 = length-append rows (r₁ ∷ (first ++ c₁ ∷ [])) in
+      let x9 = length_push first c₁ in (
+        opened kd e rows terms o os,
+        open_step rows terms o os kd (terms_of e) n w (omega arith) (omega arith) (omega arith),
+        one_part kd e rows terms o os p
+            (inner (rows ++ opener kd e rows terms o os 0 ∷ []) (terms ++ terms_of e) (length rows) (o ∷ os) (omega arith) (omega arith) (omega arith))
+            k (omega arith) (omega arith)
+            (leads (rows ++ r₁ ∷ (first ++ c₁ ∷ [])) ((terms ++ terms_of e) ++ all_terms (block_lines p)) o os deep (omega arith) (omega arith)),
+      )
+
+block_runs : (d : ℕ) (b : Block) → FitBlock d b → Leads d b
+block_runs d done fit rows terms o os deep a b = sym (same_tables _ _ _ _ (o ∷ os) (append-nil rows) (append-nil terms))
+block_runs d (skip k) fit rows terms o os deep a b =
     let r = row kind.Skip (length terms) 0 0 in
     let l = length_push rows r in
     let m = length-append terms [] in (
       tables (rows ++ r ∷ []) (terms ++ []) (o ∷ os),
       plain_step rows terms o os kind.Skip [] refl refl (omega arith) (omega arith),
-      after_line rows r terms [] (o ∷ os) k (length terms) (omega arith) (block_runs d k (rows ++ r ∷ []) (terms ++ []) o os fit deep (omega arith) (omega arith)),
+      after_line rows r terms [] (o ∷ os) k (length terms) (omega arith) (block_runs d k fit (rows ++ r ∷ []) (terms ++ []) o os deep (omega arith) (omega arith)),
     )
-block_runs d (assign v e k) rows terms o os fit deep a b =
-    let r = row (kind.Assign v) (length terms) (length (terms_of e)) 0 in
-    let l = length_push rows r in
-    let m = length-append terms (terms_of e) in
-    let n = length-append (terms_of e) (all_terms (block_lines k)) in (
-      tables (rows ++ r ∷ []) (terms ++ terms_of e) (o ∷ os),
-      plain_step rows terms o os (kind.Assign v) (terms_of e) refl refl (omega arith) (omega arith),
-      after_line rows r terms (terms_of e) (o ∷ os) k _ refl (block_runs d k (rows ++ r ∷ []) (terms ++ terms_of e) o os fit.2 deep (omega arith) (omega arith)),
-    )
-block_runs d (output c e k) rows terms o os fit deep a b =
-    let r = row (kind.Output c) (length terms) (length (terms_of e)) 0 in
-    let l = length_push rows r in
-    let m = length-append terms (terms_of e) in
-    let n = length-append (terms_of e) (all_terms (block_lines k)) in (
-      tables (rows ++ r ∷ []) (terms ++ terms_of e) (o ∷ os),
-      plain_step rows terms o os (kind.Output c) (terms_of e) refl refl (omega arith) (omega arith),
-      after_line rows r terms (terms_of e) (o ∷ os) k _ refl (block_runs d k (rows ++ r ∷ []) (terms ++ terms_of e) o os fit.3 deep (omega arith) (omega arith)),
-    )
-block_runs d (branch true e p q k) rows terms o os fit deep a b =
+block_runs d (assign v e k) fit rows terms o os deep a b = plain_runs rows terms o os d deep (kind.Assign v) (terms_of e) k (block_runs d k fit.2) refl refl a b
+block_runs d (output c e k) fit rows terms o os deep a b = plain_runs rows terms o os d deep (kind.Output c) (terms_of e) k (block_runs d k fit.3) refl refl a b
+block_runs d (branch true e p q k) fit rows terms o os deep a b =
     let ls = block_lines q ++ close_line ∷ block_lines k in
     let pos = fit.0 in
     let x1 = length_push rows (opener kind.If e rows terms o os 0) in
@@ -311,55 +339,13 @@ block_runs d (branch true e p q k) rows terms o os fit deep a b =
       opened kind.If e rows terms o os,
       open_step rows terms o os kind.If (terms_of e) refl refl (omega arith) (omega arith) (omega arith),
       two_parts kind.If e rows terms o os p
-          (block_runs (d - 1) p (rows ++ opener kind.If e rows terms o os 0 ∷ []) (terms ++ terms_of e) (length rows) (o ∷ os) fit.2 (omega arith) (omega arith) (omega arith))
+          (block_runs (d - 1) p fit.2 (rows ++ opener kind.If e rows terms o os 0 ∷ []) (terms ++ terms_of e) (length rows) (o ∷ os) (omega arith) (omega arith) (omega arith))
           refl q k (omega arith) (omega arith)
-          (block_runs (d - 1) q (rows₂ ++ row kind.Else (u₁ + width p) 0 0 ∷ []) ((terms ++ terms_of e) ++ all_terms (block_lines p)) (length rows₂) (o ∷ os) fit.3 (omega arith) (omega arith) (omega arith))
-          (block_runs d k (rows₂ ++ e₂ ∷ (second ++ c₂ ∷ [])) (((terms ++ terms_of e) ++ all_terms (block_lines p)) ++ all_terms (block_lines q)) o os fit.5 deep (omega arith) (omega arith)),
+          (block_runs (d - 1) q fit.3 (rows₂ ++ row kind.Else (u₁ + width p) 0 0 ∷ []) ((terms ++ terms_of e) ++ all_terms (block_lines p)) (length rows₂) (o ∷ os) (omega arith) (omega arith) (omega arith))
+          (block_runs d k fit.5 (rows₂ ++ e₂ ∷ (second ++ c₂ ∷ [])) (((terms ++ terms_of e) ++ all_terms (block_lines p)) ++ all_terms (block_lines q)) o os deep (omega arith) (omega arith)),
     )
-block_runs d (branch false e p q k) rows terms o os fit deep a b =
-    let pos = fit.0 in
-    let x1 = length_push rows (opener kind.If e rows terms o os 0) in
-    let x2 = length-append terms (terms_of e) in
-    let x3 = length-append (terms ++ terms_of e) (all_terms (block_lines p)) in
-    let x4 = length-append (block_lines p) (close_line ∷ block_lines k) in
-    let x5 = length-append (terms_of e) (all_terms (block_lines p ++ close_line ∷ block_lines k)) in
-    let x6 = width_closed (block_lines p) (block_lines k) in
-    let u₁ = length terms + length (terms_of e) in
-    let first = block_rows (length rows + 1) u₁ p in
-    let r₁ = row kind.If (length terms) (length (terms_of e)) (length rows + 1 + length first) in
-    let c₁ = row kind.Close (u₁ + width p) 0 0 in
-    let x7 = rows_like_lines (length rows + 1) u₁ p in
-    let x8 = length-append rows (r₁ ∷ (first ++ c₁ ∷ [])) in
-    let x9 = length_push first c₁ in (
-      opened kind.If e rows terms o os,
-      open_step rows terms o os kind.If (terms_of e) refl refl (omega arith) (omega arith) (omega arith),
-      one_part kind.If e rows terms o os p
-          (block_runs (d - 1) p (rows ++ opener kind.If e rows terms o os 0 ∷ []) (terms ++ terms_of e) (length rows) (o ∷ os) fit.2 (omega arith) (omega arith) (omega arith))
-          k (omega arith) (omega arith)
-          (block_runs d k (rows ++ r₁ ∷ (first ++ c₁ ∷ [])) ((terms ++ terms_of e) ++ all_terms (block_lines p)) o os fit.5 deep (omega arith) (omega arith)),
-    )
-block_runs d (repeat e p k) rows terms o os fit deep a b =
-    let pos = fit.0 in
-    let x1 = length_push rows (opener kind.While e rows terms o os 0) in
-    let x2 = length-append terms (terms_of e) in
-    let x3 = length-append (terms ++ terms_of e) (all_terms (block_lines p)) in
-    let x4 = length-append (block_lines p) (close_line ∷ block_lines k) in
-    let x5 = length-append (terms_of e) (all_terms (block_lines p ++ close_line ∷ block_lines k)) in
-    let x6 = width_closed (block_lines p) (block_lines k) in
-    let u₁ = length terms + length (terms_of e) in
-    let first = block_rows (length rows + 1) u₁ p in
-    let r₁ = row kind.While (length terms) (length (terms_of e)) (length rows + 1 + length first) in
-    let c₁ = row kind.Close (u₁ + width p) 0 0 in
-    let x7 = rows_like_lines (length rows + 1) u₁ p in
-    let x8 = length-append rows (r₁ ∷ (first ++ c₁ ∷ [])) in
-    let x9 = length_push first c₁ in (
-      opened kind.While e rows terms o os,
-      open_step rows terms o os kind.While (terms_of e) refl refl (omega arith) (omega arith) (omega arith),
-      one_part kind.While e rows terms o os p
-          (block_runs (d - 1) p (rows ++ opener kind.While e rows terms o os 0 ∷ []) (terms ++ terms_of e) (length rows) (o ∷ os) fit.2 (omega arith) (omega arith) (omega arith))
-          k (omega arith) (omega arith)
-          (block_runs d k (rows ++ r₁ ∷ (first ++ c₁ ∷ [])) ((terms ++ terms_of e) ++ all_terms (block_lines p)) o os fit.3 deep (omega arith) (omega arith)),
-    )
+block_runs d (branch false e p q k) fit rows terms o os deep a b = one_part_runs rows terms o os d deep kind.If e p k (block_runs (d - 1) p fit.2) (block_runs d k fit.5) fit.0 refl refl a b
+block_runs d (repeat e p k) fit rows terms o os deep a b = one_part_runs rows terms o os d deep kind.While e p k (block_runs (d - 1) p fit.2) (block_runs d k fit.3) fit.0 refl refl a b
 
 -- which channels have a handler among rows
 abbrev pub Channels : List Row → List ℕ → Type 0
@@ -412,7 +398,7 @@ tree_runs (h ∷ hs) cs rows terms fit once known a b =
       tables (rows ++ r₀ ∷ []) (terms ++ []) (length rows ∷ []),
       steps (tables rows terms []) (kind.Handler h.channel, []) (rows, length rows ∷ []) refl (known h.channel ∙ once.0) (room rows terms [] [] (omega arith) (omega arith)),
       closed_runs rows (kind.Handler h.channel) u 0 (terms ++ []) [] p u short
-          (block_runs 8 p (rows ++ r₀ ∷ []) (terms ++ []) (length rows) [] fit.0.1 (omega arith) (omega arith) (omega arith))
+          (block_runs 8 p fit.0.1 (rows ++ r₀ ∷ []) (terms ++ []) (length rows) [] (omega arith) (omega arith) (omega arith))
           (lines_of hs) _ (omega arith) (omega arith)
           (
           subst (λ (x : Tables). Runs (tables rows₂ terms₂ []) (lines_of hs) x)
