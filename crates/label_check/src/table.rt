@@ -52,6 +52,7 @@ impl Table {
         }
     }
 
+    // A variable is a plain number, as lent rows and terms have it.
     pub fn variable(&self, variable: u8) -> Level
         requires { variable < 16 }
         ensures { result.number ≡ (labels_in self.now).of_variable variable }

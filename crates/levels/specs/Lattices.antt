@@ -25,6 +25,10 @@ some_join L a b j e =
     let q = and_parts _ _ p.0 in
     (ltb-true _ _ q.0, ltb-true _ _ q.1, p.1)
 
+-- a join is a level
+pub join_answer : {L : Levels} → Lattice L → (a b j : ℕ) → join_of L a b ≡ Some j → j < L.count
+join_answer {L} laws a b j e = let p = some_join L a b j e in rw p.2 at (join_level laws a b p.0 p.1)
+
 pub never_none : {L : Levels} → Lattice L → (a b : ℕ) → a < L.count → b < L.count → join_of L a b ≡ None → ⊥
 never_none {L} laws a b ha hb e = let p = join_some L a b ha hb in cc
 

@@ -1,6 +1,7 @@
 -- Chains and pairs have the laws of a scheme, a pair since its parts have them. Assumes nothing.
 use Rattle.std.proofs.Common.{◌≡◌, ℕ, ◌+◌, ◌*◌, ◌/◌, ◌%◌, ◌<◌, ◌≤◌, true, false, ◌&&◌, ltb, leb, Some, None, sym, ap, ◌∙◌, ⊎_elim, div-lt_iff_lt-mul, arith, rules}
 use mathlib.Core.Path.{subst⁻¹}
+use lib.Arith.{digits_lt}
 use Rattle.std.proofs.lemmas.Nat.{div-mul-add, mod-mul-add, div_below, mod_below, div-add-mod', mul-le}
 use Rattle.std.proofs.lemmas.Bool.{and_parts, and_from, cond_both, leb-true, lt-ltb, cond-true, cond-false, le-ltb, cases_lt}
 use Rattle.levels.specs.Scheme.{Levels, Below, Proper, Reflexive, Antisymmetric, Transitive, Bottom, Joins, Lattice, join_of}
@@ -112,3 +113,7 @@ module _ {P Q : Levels} (lp : Lattice P) (lq : Lattice Q) where
       let all = join_some (product P Q) m n (inside m x.0) (inside n x.1) in
       subst⁻¹ (λ (L : Levels). join_of L m n ≡ Some (p * Q.count + q)) (cond-true _ _ _ small)
       (all ∙ ap Some (ap (λ (z : ℕ). z * Q.count + Q.join (m % Q.count) (n % Q.count)) x.2 ∙ ap (λ (z : ℕ). p * Q.count + z) y.2))
+
+-- the number of a level with two parts is below 16
+pub parts_fit : (a b p q : ℕ) → leb (a * b) 16 ≡ true → p < a → q < b → p * b + q < 16
+parts_fit a b p q small hp hq = let l = digits_lt {m = a} hp hq in omega (arith, leb-true (a * b) 16 small)

@@ -15,7 +15,7 @@ pub struct Chain {
 }
 
 impl Chain {
-    // One test, as the other schemes' of other limits.
+    // Not shared with the other schemes: one test, of another limit.
     pub fn new(count: u8) -> Result<Chain, Fault>
         ensures { Accepts (is_chain count) (λ c. c.count ≡ count) reason.Level result }
     {

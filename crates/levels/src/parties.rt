@@ -15,7 +15,7 @@ pub struct Parties {
 }
 
 impl Parties {
-    // One test, as the other schemes' of other limits.
+    // Not shared with the other schemes: one test, of another limit.
     pub fn new(number: u8) -> Result<Parties, Fault>
         ensures { Accepts (is_parties number) (λ p. p.number ≡ number) reason.Level result }
     {

@@ -16,7 +16,7 @@ use ticket::Ticket;
 // The part of the input that holds the tickets.
 const TICKETS_PART: u8 = 3;
 
-// A line for each ticket and then the level of the batch, or the refusal alone.
+// A line for each ticket and then the level of the batch, or the refusal alone. Scheme and sheet are told apart, as the batch call tests them.
 pub fn list_batch<S: Scheme>(
     out: &mut Vec<u8>,
     scheme: &S,

@@ -34,6 +34,7 @@ pub fn report_machine<M: Machine + Drop>(
 fn feed<M: Machine>(out: &mut Vec<u8>, machine: &M, bytes: &[u8]) -> Result<(), AllocError>
     ensures { Appends out.old (fed_lines (M.meaning machine.now) bytes.now) result out.new }
 {
+    // The same test stands before a batch, and is answered by a refusal there.
     if bytes.len() % 8 != 0 {
         return put_fault(out, TICKETS_PART, Fault::unplaced(Reason::Record));
     }

@@ -61,7 +61,7 @@ fn put_made(out: &mut Vec<u8>, n: u64, tickets: &[Ticket]) -> Result<(), AllocEr
     Ok(())
 }
 
-// Behind the number of the record that made it.
+// Behind the number of the record that made it; a line of a batch has its direction, and no number.
 fn put_ticket(out: &mut Vec<u8>, n: u64, ticket: Ticket) -> Result<(), AllocError>
     ensures { Appends out.old (made_line n ticket) result out.new }
 {

@@ -24,7 +24,7 @@ const SCHEME_PART: u8 = 1;
 
 const SHEET_PART: u8 = 2;
 
-// What is printed of the third part, under a scheme and a sheet that were read.
+// What is printed of the third part, under a scheme and a sheet that were read. They are two, as the calls that are made under them test both.
 pub trait PartReport {
     ghost text: { Levels → LevelSheet → List ℕ → List ℕ };
 

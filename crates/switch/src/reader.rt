@@ -84,7 +84,7 @@ fn fill_lines(text: &[u8], lines: &mut [SwitchLine]) -> Result<usize, Fault>
     Ok(count)
 }
 
-// The sheet that a text is the writing of, in at least 64 lent lines; the answer counts its lines.
+// The sheet that a text is the writing of, in at least 64 lent lines; the answer counts its lines, since more may be lent than it has.
 pub fn read_switch(text: &[u8], lines: &mut [SwitchLine]) -> Result<usize, Fault>
     ensures value { result ≡ answer (length lines.old) text.now }
     ensures lines { lines.new ≡ lines_after text.now lines.old }
