@@ -1,5 +1,5 @@
 // A pair of schemes with a and b levels, a * b at most 16. Level n is the pair of n / b and n % b.
-ghost use Rattle.std.specs.Prelude.{◌≡◌, ◌+◌, ◌*◌, ◌<◌, true};
+ghost use Rattle.std.specs.Prelude.{◌≡◌, ◌+◌, ◌*◌, ◌<◌, true, ⊤};
 ghost use Rattle.fault.specs.declared.Reason.TheVariants as reason;
 ghost use Rattle.fault.specs.Faults.{Accepts};
 ghost use Rattle.levels.specs.Pair.{pair, is_pair};
@@ -19,6 +19,8 @@ pub struct Pair<P: Scheme, Q: Scheme> {
 // By hand: Clone cannot be derived for a generic struct with a ghost field.
 impl<P: Scheme, Q: Scheme> Clone for Pair<P, Q> {
     ghost is_clone = { λ s r. r ≡ s };
+
+    ghost is_infallible = { λ _. ⊤ };
 
     fn clone(&self) -> Result<Pair<P, Q>, AllocError> {
         Ok(*self)
