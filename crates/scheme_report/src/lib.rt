@@ -90,3 +90,37 @@ fn report_under_sheet<P: PartReport, S: Scheme>(
         Err(fault) => put_fault(out, SHEET_PART, fault),
     }
 }
+
+#[cfg(test)]
+mod tests {
+    use super::{PartReport, report_parts};
+    use levels::Scheme;
+    use print::put_bytes;
+    use sheet::LevelSheet;
+    use std::alloc::AllocError;
+    use std::test::Fail;
+
+    // Prints the third part as it is.
+    struct Echo;
+
+    impl PartReport for Echo {
+        ghost text = { λ _ _ part. part };
+
+        fn report_part<S: Scheme>(
+            out: &mut Vec<u8>,
+            _scheme: &S,
+            _sheet: &LevelSheet,
+            part: &[u8],
+        ) -> Result<(), AllocError> {
+            put_bytes(out, part)
+        }
+    }
+
+    #[test]
+    fn the_third_part_is_reported_on(rt: HostRuntime) -> Result<(), Fail> {
+        let mut out = Vec::new(rt.alloc());
+        report_parts::<Echo>(&mut out, b"chain,2\n-\nC,0,1\n-\nrest\n")?;
+        assert_eq!(rt; out.as_slice(), b"rest\n".as_slice());
+        Ok(())
+    }
+}
