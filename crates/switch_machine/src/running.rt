@@ -42,7 +42,7 @@ impl<'a> Machine for Switch<'a> {
 fn first_fit(lines: &[SwitchLine], state: u32, ticket: Ticket) -> Option<SwitchLine>
     ensures { result ≡ first_fit state ticket lines.now }
 {
-    lines.iter().copied().find(|line| fits(line, state, ticket))
+    lines.iter().find(|line| fits(line, state, ticket)).copied()
 }
 
 // A state above 255 fits no line.
