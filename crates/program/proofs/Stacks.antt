@@ -11,9 +11,6 @@ below_more m (o ∷ os) h = (let a = h.0 in omega arith, below_more m os h.1)
 pub kept : (m : ℕ) (os : List ℕ) → Among m os → Among (m + 1) os
 kept m os a = record { few = a.few; below = below_more m os a.below }
 
-pub kept_on : (m : ℕ) (xs ys : List ℕ) → Among m (reverse xs) → ys ≡ xs → Among (m + 1) (reverse ys)
-kept_on m xs ys a e = subst (λ (os : List ℕ). Among (m + 1) (reverse os)) (sym e) (kept m (reverse xs) a)
-
 -- the last one is the first from behind
 pub innermost : (xs ys : List ℕ) (o : ℕ) → xs ≡ ys ++ o ∷ [] → reverse xs ≡ o ∷ reverse ys
 innermost xs ys o e = ap reverse e ∙ reverse-append ys (o ∷ [])

@@ -1,6 +1,5 @@
 -- What one more row leaves. Assumes nothing.
-use Rattle.std.specs.Prelude.{◌≡◌, ℕ, ◌+◌, List, reverse, length, take, Some, None, Ok, Err, Option, Result}
-use Rattle.arrayvec.specs.ArrayVec.{ArrayVec}
+use Rattle.std.specs.Prelude.{◌≡◌, ℕ, ◌+◌, List, length, take, Some, None, Ok, Err, Option, Result}
 use Rattle.fault.specs.declared.Fault.{Fault}
 use Rattle.program.specs.declared.nest.Misplaced.{Misplaced}
 use Rattle.program.specs.declared.rows.Row.{Row}
@@ -8,12 +7,12 @@ use Rattle.program.specs.declared.rows.Term.{Term}
 use Rattle.program.specs.Building.{Tables, tables, build}
 use Rattle.program.specs.Open.{Open}
 
--- the answer and the rows that a row among others leaves: the open rows, or a refusal where it is misplaced
-abbrev pub Nests : Option (List Row × List ℕ) → Result (ArrayVec ℕ) Misplaced → List Row → Type 0
-Nests None (Ok o) rows = ⊥
-Nests None (Err e) rows = Unit {0}
-Nests (Some p) (Ok o) rows = (rows ≡ p.0) × (reverse o.items ≡ p.1)
-Nests (Some p) (Err e) rows = ⊥
+-- the answer that a row among others gets, with the rows and the open ones that it leaves; where it is misplaced it is refused, and leaves any
+abbrev pub Nests : Option (List Row × List ℕ) → Result (Unit {0}) Misplaced → List Row → List ℕ → Type 0
+Nests None (Ok u) rows stack = ⊥
+Nests None (Err e) rows stack = Unit {0}
+Nests (Some p) (Ok u) rows stack = (rows ≡ p.0) × (stack ≡ p.1)
+Nests (Some p) (Err e) rows stack = ⊥
 
 abbrev pub Adds : Result Tables Fault → Result (Unit {0}) Fault → List Row → List ℕ → Type 0
 Adds (Ok t) r rows stack = (r ≡ Ok tt) × (rows ≡ t.rows) × (stack ≡ t.stack)

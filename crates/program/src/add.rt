@@ -3,7 +3,7 @@ ghost use Rattle.std.specs.Prelude.{◌≡◌, ◌+◌, ◌<◌, ◌≤◌, leng
 ghost use Rattle.program.specs.Building.{has_handler, is_twice};
 ghost use Rattle.program.specs.Nesting.{Builds};
 
-use crate::nest::Nesting;
+use crate::nest::{Misplaced, Nesting, nest};
 use crate::rows::{Kind, Row};
 use fault::{Fault, Reason};
 use text::placed;
@@ -44,19 +44,19 @@ impl Nesting {
     {
         let at = self.count;
         let second = is_second(row.kind, &rows[..at]);
-        let open = self
-            .nest(&mut rows[..at], row.kind)
-            .map_err(|_| placed(Reason::Nest, line, 1))?;
-        if second {
-            return Err(placed(Reason::Twice, line, 2));
-        }
         let end = row.first as usize + row.count as usize;
-        if at >= ROW_LIMIT || end > TERM_LIMIT {
-            return Err(placed(Reason::Full, line, 1));
-        }
-        rows[at] = row;
-        self.open = open;
-        self.count += 1;
-        Ok(())
+        let fault = match nest(&mut self.open, &mut rows[..at], row.kind) {
+            Err(Misplaced) => placed(Reason::Nest, line, 1),
+            Ok(()) if second => placed(Reason::Twice, line, 2),
+            Ok(()) if at >= ROW_LIMIT || end > TERM_LIMIT => placed(Reason::Full, line, 1),
+            Ok(()) => {
+                rows[at] = row;
+                self.count += 1;
+                return Ok(());
+            }
+        };
+        // A refused row leaves none open.
+        self.open.clear();
+        Err(fault)
     }
 }

@@ -1,5 +1,5 @@
 // Which rows are open, and the partners that are written where one closes.
-ghost use Rattle.std.specs.Prelude.{◌≡◌, ◌+◌, ◌≤◌, ◌==◌, not, [], reverse, length, IfOk};
+ghost use Rattle.std.specs.Prelude.{◌≡◌, ◌+◌, ◌≤◌, ◌==◌, not, [], reverse, length, OnOk};
 ghost use Rattle.program.specs.Building.{nested};
 ghost use Rattle.program.specs.Nesting.{Nests};
 ghost use Rattle.program.specs.Open.{Among};
@@ -7,7 +7,6 @@ ghost use Rattle.program.specs.Open.{Among};
 use crate::rows::{Kind, Row};
 use arrayvec::ArrayVec;
 use std::marker::Model;
-use std::mem;
 
 // A row of a kind that may not come where it does.
 #[derive(Clone, Copy, PartialEq, Eq, Debug)]
@@ -54,36 +53,35 @@ impl Nesting {
     {
         !self.open.is_empty()
     }
+}
 
-    // The rows that are open behind one more row, of a kind. They are taken out of here, so a refused row leaves none open.
-    pub(crate) fn nest(
-        &mut self,
-        rows: &mut [Row],
-        kind: Kind,
-    ) -> Result<ArrayVec<u8, 9>, Misplaced>
-        requires { length rows.old ≡ self.old.count }
-        ensures value { Nests (nested rows.old self.old.stack self.old.count kind) result rows.new }
-        ensures among { IfOk result (λ o. Among (self.old.count + 1) (reverse o.items)) }
-        ensures taken { self.new ≡ record { count = self.old.count; stack = [] } }
-    {
-        let at = self.count as u8;
-        let mut open = mem::replace(&mut self.open, ArrayVec::new());
-        match kind {
-            Kind::Skip | Kind::Assign(_) | Kind::Output(_) if !open.is_empty() => {}
-            Kind::Handler(_) if open.is_empty() => open.push(at),
-            Kind::If | Kind::While if !open.is_empty() && !open.is_full() => open.push(at),
-            Kind::Else => {
-                let top = open.pop().ok_or(Misplaced)? as usize;
-                if rows[top].kind != Kind::If {
-                    return Err(Misplaced);
-                }
-                rows[top].partner = at;
-                open.push(at);
+// The rows that are open behind one more row, of a kind, in place of those that were. A refused row may leave any of them.
+pub(crate) fn nest(
+    open: &mut ArrayVec<u8, 9>,
+    rows: &mut [Row],
+    kind: Kind,
+) -> Result<(), Misplaced>
+    requires few { length rows.old ≤ 128 }
+    requires among { Among (length rows.old) (reverse «open».old.items) }
+    ensures value { Nests (nested rows.old (reverse «open».old.items) (length rows.old) kind) result rows.new (reverse «open».new.items) }
+    ensures among { OnOk result (Among (length rows.old + 1) (reverse «open».new.items)) }
+{
+    let at = rows.len() as u8;
+    match kind {
+        Kind::Skip | Kind::Assign(_) | Kind::Output(_) if !open.is_empty() => {}
+        Kind::Handler(_) if open.is_empty() => open.push(at),
+        Kind::If | Kind::While if !open.is_empty() && !open.is_full() => open.push(at),
+        Kind::Else => {
+            let top = open.pop().ok_or(Misplaced)? as usize;
+            if rows[top].kind != Kind::If {
+                return Err(Misplaced);
             }
-            Kind::Close => rows[open.pop().ok_or(Misplaced)? as usize].partner = at,
-            // Also a row whose guard above failed.
-            _ => return Err(Misplaced),
+            rows[top].partner = at;
+            open.push(at);
         }
-        Ok(open)
+        Kind::Close => rows[open.pop().ok_or(Misplaced)? as usize].partner = at,
+        // Also a row whose guard above failed.
+        _ => return Err(Misplaced),
     }
+    Ok(())
 }
