@@ -1,6 +1,5 @@
 -- A line of a site program: what is read, and what is written. Assumes nothing.
 use Rattle.std.specs.Prelude.{◌≡◌, ℕ, ◌+◌, ◌≤◌, cond, List, [], ◌∷◌, ◌++◌, map, length, Ok, Err, decimal, Result, ◌==◌}
-use Rattle.arrayvec.specs.ArrayVec.{ArrayVec}
 use Rattle.fault.specs.declared.Fault.{Fault}
 use Rattle.fault.specs.Faults.{then}
 use Rattle.text.specs.Pieces.{pieces, joined}
@@ -15,13 +14,14 @@ use Rattle.program.specs.Terms.{expression_from, term_bytes, Expression}
 abbrev pub Line : Type 0
 Line = Kind × List Term
 
+-- an answer with the terms that were read beside it, unless there was a refusal
+abbrev pub told : {X : Type 0} → Result X Fault → List Term → Result (X × List Term) Fault
+told (Ok x) ts = Ok (x, ts)
+told (Err f) ts = Err f
+
 -- an expression, and then no field
 abbrev pub whole_from : ℕ → ℕ → List (List ℕ) → Result (List Term) Fault
 whole_from n k fs = then (expression_from n k 1 [] fs) (λ e. then (read_end n (k + length e.0) e.1) (λ _. Ok e.0))
-
--- terms as they are held
-abbrev pub held_terms : Result (List Term) Fault → Result (ArrayVec Term) Fault
-held_terms r = then r (λ ts. Ok (record { items = ts }))
 
 -- a letter alone, or with an expression
 abbrev pub alone : ℕ → Kind → List (List ℕ) → Result Line Fault
@@ -33,9 +33,6 @@ tested n kind fs = then (whole_from n 2 fs) (λ ts. Ok (kind, ts))
 -- a variable or channel from low to high, and an expression for it
 abbrev pub aimed_from : ℕ → ℕ → ℕ → List (List ℕ) → Result (ℕ × List Term) Fault
 aimed_from n low high fs = then (read_number n 2 low high fs) (λ v. then (whole_from n 3 (tail_of fs)) (λ ts. Ok (v, ts)))
-
-abbrev pub held_aim : Result (ℕ × List Term) Fault → Result (ℕ × ArrayVec Term) Fault
-held_aim r = then r (λ a. Ok (a.0, record { items = a.1 }))
 
 abbrev pub aimed : ℕ → (ℕ → Kind) → ℕ → ℕ → List (List ℕ) → Result Line Fault
 aimed n kind low high fs = then (aimed_from n low high fs) (λ a. Ok (kind a.0, a.1))
@@ -62,9 +59,6 @@ line_in n fs = then (read_letter n fs) (λ c. by_letter n c (tail_of fs))
 -- line n by its bytes
 abbrev pub parse : ℕ → List ℕ → Result Line Fault
 parse n p = line_in n (pieces 44 p)
-
-abbrev pub held_line : Result Line Fault → Result (Kind × ArrayVec Term) Fault
-held_line r = then r (λ l. Ok (l.0, record { items = l.1 }))
 
 abbrev pub letter_byte : Kind → ℕ
 letter_byte Skip = 83

@@ -2,7 +2,6 @@
 use Rattle.std.specs.Prelude.{◌≡◌, ℕ, ◌+◌, ◌-◌, ◌^◌, ◌<◌, ◌≤◌, cond, List, [], ◌∷◌, ◌++◌, length, drop, Some, None, Ok, Err, decimal, Option, Result, ◌==◌, nat_le, slice_index}
 use Rattle.std.specs.List.{AllByRecursion}
 use Rattle.std.specs.Option.{option_map}
-use Rattle.arrayvec.specs.ArrayVec.{ArrayVec}
 use Rattle.fault.specs.declared.Fault.{Fault}
 use Rattle.fault.specs.Faults.{then}
 use Rattle.language.specs.Operators.{operator_of}
@@ -65,10 +64,10 @@ expression_from n k lacking acc (f ∷ fs) =
     (cond (nat_le 15 (length acc)) (Err (field_at n k))
     (then (or_refused (field_at n k) (term_in f)) (λ t. expression_from n (k + 1) (lacking - 1 + arity_of t) (acc ++ t ∷ []) fs)))
 
--- the answer r, and the fields that are left, where terms were read; a refusal leaves any
-abbrev pub ExpressionRead : Result (List Term × List (List ℕ)) Fault → Result (ArrayVec Term) Fault → List (List ℕ) → Type 0
-ExpressionRead (Ok e) r fs = (r ≡ Ok (record { items = e.0 })) × (fs ≡ e.1)
-ExpressionRead (Err f) r fs = r ≡ Err f
+-- a value, unless there was a refusal
+abbrev pub unless_refused : {X : Type 0} → Result (Unit {0}) Fault → X → Result X Fault
+unless_refused (Ok u) x = Ok x
+unless_refused (Err f) x = Err f
 
 -- so many parts are just what the terms make, in prefix order
 abbrev pub Whole : ℕ → List Term → Type 0

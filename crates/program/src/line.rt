@@ -1,9 +1,9 @@
 // A line of a site program: its letter, a variable or channel, and an expression.
-ghost use Rattle.std.specs.Prelude.{◌≡◌, ◌≤◌};
-ghost use Rattle.fault.specs.Faults.{then};
+ghost use Rattle.std.specs.Prelude.{◌≡◌, ◌≤◌, []};
 ghost use Rattle.text.specs.Pieces.{pieces};
 ghost use Rattle.text.specs.Reading.{left_of, line_of};
-ghost use Rattle.program.specs.Lines.{whole_from, held_terms, aimed_from, held_aim, alone, line_in, held_line};
+ghost use Rattle.program.specs.Lines.{whole_from, told, aimed_from, alone, line_in};
+ghost use Rattle.program.specs.Terms.{unless_refused};
 
 use crate::rows::Kind;
 use crate::terms::{Expression, expression};
@@ -11,54 +11,62 @@ use fault::{Fault, Reason};
 use text::{Fields, Line};
 
 // An expression, and then no field.
-fn whole(fields: &mut Fields<'_>, place: u8) -> Result<Expression, Fault>
-    requires { place ≤ 100 }
-    ensures { result ≡ held_terms (whole_from (line_of fields.old) place (left_of fields.old)) }
+fn whole(fields: &mut Fields<'_>, place: u8, terms: &mut Expression) -> Result<(), Fault>
+    requires small { place ≤ 100 }
+    requires empty { terms.old.items ≡ [] }
+    ensures { unless_refused result terms.new.items ≡ whole_from (line_of fields.old) place (left_of fields.old) }
 {
-    let terms = expression(fields, place)?;
-    fields.end(place + terms.len() as u8)?;
-    Ok(terms)
+    expression(fields, place, terms)?;
+    fields.end(place + terms.len() as u8)
 }
 
 // A variable or channel, and an expression for it.
-fn aimed(fields: &mut Fields<'_>, low: u8, high: u8) -> Result<(u8, Expression), Fault>
-    ensures { result ≡ held_aim (aimed_from (line_of fields.old) low high (left_of fields.old)) }
+fn aimed(fields: &mut Fields<'_>, low: u8, high: u8, terms: &mut Expression) -> Result<u8, Fault>
+    requires { terms.old.items ≡ [] }
+    ensures { told result terms.new.items ≡ aimed_from (line_of fields.old) low high (left_of fields.old) }
 {
     let target = fields.byte(2, low, high)?;
-    let terms = whole(fields, 3)?;
-    Ok((target, terms))
+    whole(fields, 3, terms)?;
+    Ok(target)
 }
 
 // A line of its letter alone.
-fn bare(fields: &Fields<'_>, kind: Kind) -> Result<(Kind, Expression), Fault>
-    ensures { result ≡ held_line (alone (line_of fields.now) kind (left_of fields.now)) }
+fn bare(fields: &Fields<'_>, kind: Kind) -> Result<Kind, Fault>
+    ensures { told result [] ≡ alone (line_of fields.now) kind (left_of fields.now) }
 {
     fields.end(2)?;
-    Ok((kind, Expression::new()))
+    Ok(kind)
 }
 
-// One line: its kind, and its expression.
-pub fn read_line(line: Line<'_>) -> Result<(Kind, Expression), Fault>
-    ensures { result ≡ held_line (line_in line.entry.number (pieces 44 line.entry.bytes.now)) }
+// One line: its kind, and its expression into lent terms.
+pub fn read_line(line: Line<'_>, terms: &mut Expression) -> Result<Kind, Fault>
+    requires { terms.old.items ≡ [] }
+    ensures { told result terms.new.items ≡ line_in line.entry.number (pieces 44 line.entry.bytes.now) }
 {
     let mut fields = Fields::new(line);
     match fields.letter()? {
         'H' => {
             let channel = fields.byte(2, 0, 15)?;
             fields.end(3)?;
-            Ok((Kind::Handler(channel), Expression::new()))
+            Ok(Kind::Handler(channel))
         }
         'A' => {
-            let (variable, terms) = aimed(&mut fields, 0, 15)?;
-            Ok((Kind::Assign(variable), terms))
+            let variable = aimed(&mut fields, 0, 15, terms)?;
+            Ok(Kind::Assign(variable))
         }
         'O' => {
-            let (channel, terms) = aimed(&mut fields, 16, 31)?;
-            Ok((Kind::Output(channel), terms))
+            let channel = aimed(&mut fields, 16, 31, terms)?;
+            Ok(Kind::Output(channel))
         }
         'S' => bare(&fields, Kind::Skip),
-        'I' => Ok((Kind::If, whole(&mut fields, 2)?)),
-        'W' => Ok((Kind::While, whole(&mut fields, 2)?)),
+        'I' => {
+            whole(&mut fields, 2, terms)?;
+            Ok(Kind::If)
+        }
+        'W' => {
+            whole(&mut fields, 2, terms)?;
+            Ok(Kind::While)
+        }
         'E' => bare(&fields, Kind::Else),
         'X' => bare(&fields, Kind::Close),
         _ => Err(line.fault(Reason::Letter, 1)),

@@ -11,6 +11,7 @@ use crate::add::{ROW_LIMIT, TERM_LIMIT};
 use crate::line::read_line;
 use crate::nest::Nesting;
 use crate::rows::{Row, Term};
+use crate::terms::Expression;
 use fault::{Fault, Reason};
 use text::{Line, Lines, placed};
 
@@ -34,7 +35,8 @@ impl Progress {
         ensures terms { drop self.new.used terms.new ≡ drop self.new.used terms.old }
         ensures room { OnOk result ((self.old.used ≤ self.new.used) × (self.new.used ≤ 512)) }
     {
-        let (kind, expression) = read_line(line)?;
+        let mut expression = Expression::new();
+        let kind = read_line(line, &mut expression)?;
         let row = Row {
             kind,
             first: self.used as u16,

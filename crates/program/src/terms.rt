@@ -2,7 +2,7 @@
 ghost use Rattle.std.specs.Prelude.{◌≡◌, ◌≤◌, []};
 ghost use Rattle.text.specs.Fields.{bytes_of, Formed};
 ghost use Rattle.text.specs.Reading.{left_of, line_of, head_of, Taken};
-ghost use Rattle.program.specs.Terms.{term_in, term_in_head, arity_of, expression_from, ExpressionRead};
+ghost use Rattle.program.specs.Terms.{term_in, term_in_head, arity_of, expression_from, unless_refused};
 
 use crate::rows::Term;
 use arrayvec::ArrayVec;
@@ -48,13 +48,13 @@ fn next_term(fields: &mut Fields<'_>) -> Option<Term>
     fields.take().and_then(term)
 }
 
-// One expression, of which the first field has a place. It counts the lacking parts itself, as the test of filled tables does: fields may end, terms do not.
-pub fn expression(fields: &mut Fields<'_>, place: u8) -> Result<Expression, Fault>
-    requires { place ≤ 100 }
-    ensures value { ExpressionRead (expression_from (line_of fields.old) place 1 [] (left_of fields.old)) result (left_of fields.new) }
+// One expression, of which the first field has a place, into lent terms. It counts the lacking parts itself, as the test of filled tables does: fields may end, terms do not.
+pub fn expression(fields: &mut Fields<'_>, place: u8, terms: &mut Expression) -> Result<(), Fault>
+    requires small { place ≤ 100 }
+    requires empty { terms.old.items ≡ [] }
+    ensures value { unless_refused result (terms.new.items, left_of fields.new) ≡ expression_from (line_of fields.old) place 1 [] (left_of fields.old) }
     ensures line { line_of fields.new ≡ line_of fields.old }
 {
-    let mut terms = Expression::new();
     let mut lacking: usize = 1;
     while lacking > 0 {
         let at = place + terms.len() as u8;
@@ -66,5 +66,5 @@ pub fn expression(fields: &mut Fields<'_>, place: u8) -> Result<Expression, Faul
             _ => return Err(fields.fault(at)),
         }
     }
-    Ok(terms)
+    Ok(())
 }
