@@ -9,7 +9,7 @@ use Rattle.program.specs.Terms.{FitTerm, Whole, Expression}
 use Rattle.program.specs.Trees.{operate, expressions, first_expression, expression_of}
 use Rattle.program.specs.Writing.{terms_of, InRange, FitExpression}
 
-spells : (e : Expr) (ts : List Term) → expressions (terms_of e ++ ts) ≡ e ∷ expressions ts
+pub spells : (e : Expr) (ts : List Term) → expressions (terms_of e ++ ts) ≡ e ∷ expressions ts
 spells input ts = refl
 spells (constant n) ts = refl
 spells (variable v) ts = refl
