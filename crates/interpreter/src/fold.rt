@@ -1,5 +1,5 @@
 // Folds the terms of an expression, which stand in prefix order, by what an algebra makes of each.
-ghost use Rattle.std.specs.Prelude.{◌≡◌, ◌<◌, length};
+ghost use Rattle.std.specs.Prelude.{◌≡◌, ◌<◌, ◌≤◌, length, drop};
 ghost use Rattle.language.specs.Expression.{Expr, input, constant, variable, binary};
 ghost use Rattle.program.specs.Trees.{expressions, expression_of};
 ghost use Rattle.program.specs.Writing.{InRange};
@@ -30,25 +30,22 @@ pub trait Algebra {
         ensures { (l r : Expr) → means self.now l left → means self.now r right → means self.now (binary operator l r) result };
 }
 
-// Folds the expression that stands first, and returns the terms behind it too.
-fn fold_first<'a, A: Algebra>(terms: &'a [Term], algebra: &A) -> (A::Value, &'a [Term])
-    requires whole { 0 < length (expressions terms.now) }
-    requires ranged { InRange (expression_of terms.now) }
-    ensures value { A.means algebra.now (expression_of terms.now) result.0 }
-    ensures rest { expressions result.1.now ≡ rest_expressions (expressions terms.now) }
-    ensures shorter { length result.1.now < length terms.now }
+// Folds the first expression from a place on, and returns the place behind it too.
+fn fold_first<A: Algebra>(terms: &[Term], at: usize, algebra: &A) -> (A::Value, usize)
+    requires whole { 0 < length (expressions (drop at terms.now)) }
+    requires ranged { InRange (expression_of (drop at terms.now)) }
+    ensures value { A.means algebra.now (expression_of (drop at terms.now)) result.0 }
+    ensures rest { expressions (drop result.1 terms.now) ≡ rest_expressions (expressions (drop at terms.now)) }
+    ensures onward { at < result.1 }
+    ensures within { result.1 ≤ length terms.now }
 {
-    // A whole expression has a first term.
-    let [term, rest @ ..] = terms else {
-        unreachable!()
-    };
-    match *term {
-        Term::Input => (algebra.input(), rest),
-        Term::Constant(number) => (algebra.constant(number), rest),
-        Term::Variable(number) => (algebra.variable(number), rest),
+    match terms[at] {
+        Term::Input => (algebra.input(), at + 1),
+        Term::Constant(number) => (algebra.constant(number), at + 1),
+        Term::Variable(number) => (algebra.variable(number), at + 1),
         Term::Operator(operator) => {
-            let (left, behind) = fold_first(rest, algebra);
-            let (right, end) = fold_first(behind, algebra);
+            let (left, middle) = fold_first(terms, at + 1, algebra);
+            let (right, end) = fold_first(terms, middle, algebra);
             (algebra.operator(operator, left, right), end)
         }
     }
@@ -58,6 +55,6 @@ fn fold_first<'a, A: Algebra>(terms: &'a [Term], algebra: &A) -> (A::Value, &'a 
 pub fn fold_expression<A: Algebra>(expression: Expression<'_>, algebra: &A) -> A::Value
     ensures { A.means algebra.now (expression_of expression.entry.terms.now) result }
 {
-    let (value, _) = fold_first(expression.terms, algebra);
+    let (value, _) = fold_first(expression.terms, 0, algebra);
     value
 }
